@@ -1,0 +1,246 @@
+//! Values worked out by hand, and that calls which need memory succeed.
+use crate::{
+    DomainFault, Interval, List, LockList, LockName, MAX_AXES, Mode, Name, Point, Region, Text,
+};
+use std::alloc::{AllocError, Global};
+use std::cmp::Ordering;
+use std::process::Abort;
+use std::test::Fail;
+
+/// The lower and the upper bound of each axis.
+type Pairs<'a> = &'a [(i64, i64)];
+
+fn intervals_of(alloc: Global, pairs: Pairs<'_>) -> Result<Vec<Interval>, AllocError> {
+    pairs
+        .iter()
+        .map(|(lo, hi)| Interval { lo: *lo, hi: *hi })
+        .collect(alloc)
+}
+
+fn region_of(alloc: Global, pairs: Pairs<'_>) -> Result<Region, Fail> {
+    Ok(Region::new(intervals_of(alloc, pairs)?.as_slice())?)
+}
+
+fn point_of(rt: &impl Abort, coordinates: &[i64]) -> Point {
+    let mut point = Point::new();
+    assert!(rt; coordinates.len() <= MAX_AXES);
+    for c in coordinates {
+        assert!(rt; !point.is_full());
+        point.push(*c);
+    }
+    point
+}
+
+#[test]
+fn a_region_is_made_or_its_first_fault_named(rt: HostRuntime) -> Result<(), Fail> {
+    let whole = (-2_147_483_648, 2_147_483_647);
+    let cases: [(Pairs<'_>, Result<(), DomainFault>); 27] = [
+        // The number of axes.
+        (&[], Err(DomainFault::Empty)),
+        (&[(0, 0)], Ok(())),
+        (&[(0, 0); 6], Ok(())),
+        (&[(0, 0); 7], Err(DomainFault::TooManyAxes)),
+        // The bounds.
+        (&[(-2_147_483_648, -2_147_483_648)], Ok(())),
+        (
+            &[(-2_147_483_649, -2_147_483_648)],
+            Err(DomainFault::BoundOut),
+        ),
+        (&[(2_147_483_647, 2_147_483_647)], Ok(())),
+        (
+            &[(2_147_483_647, 2_147_483_648)],
+            Err(DomainFault::BoundOut),
+        ),
+        (
+            &[(2_147_483_648, 2_147_483_648)],
+            Err(DomainFault::BoundOut),
+        ),
+        (&[(0, 0), (0, 2_147_483_648)], Err(DomainFault::BoundOut)),
+        (&[(i64::MIN, i64::MAX)], Err(DomainFault::BoundOut)),
+        // The order of the bounds.
+        (&[(-1, -1)], Ok(())),
+        (&[(-1, -2)], Err(DomainFault::Empty)),
+        (&[(0, 0), (1, 0)], Err(DomainFault::Empty)),
+        (&[(2_147_483_647, -2_147_483_648)], Err(DomainFault::Empty)),
+        // The number of points: 2^24 is 16^6, 4096^2 and 16777216.
+        (&[(1, 16_777_216)], Ok(())),
+        (&[(0, 16_777_216)], Err(DomainFault::TooLarge)),
+        (&[(-4096, -1), (0, 4095)], Ok(())),
+        (&[(-4096, -1), (0, 4096)], Err(DomainFault::TooLarge)),
+        (&[(0, 15); 6], Ok(())),
+        (
+            &[(0, 15), (0, 15), (0, 15), (0, 15), (0, 15), (0, 16)],
+            Err(DomainFault::TooLarge),
+        ),
+        (&[whole], Err(DomainFault::TooLarge)),
+        (&[whole; 6], Err(DomainFault::TooLarge)),
+        // The first of two faults is the one that is named.
+        (&[(0, 2_147_483_648); 7], Err(DomainFault::TooManyAxes)),
+        (&[(1, 0); 7], Err(DomainFault::TooManyAxes)),
+        (&[(1, 0), (0, 2_147_483_648)], Err(DomainFault::BoundOut)),
+        (&[whole, whole, (1, 0)], Err(DomainFault::Empty)),
+    ];
+    for (pairs, want) in cases {
+        let axes = intervals_of(rt.alloc(), pairs)?;
+        let made = Region::new(axes.as_slice());
+        if let Ok(region) = &made {
+            assert_eq!(rt; region.axes(), axes.as_slice());
+        }
+        assert_eq!(rt; made.map(|_| ()), want, "at {pairs:?}");
+    }
+    Ok(())
+}
+
+#[test]
+fn a_region_contains_the_points_within_its_bounds(rt: HostRuntime) -> Result<(), Fail> {
+    let region = region_of(rt.alloc(), &[(-1, 0), (2, 4)])?;
+    let cases: [(&[i64], bool); 12] = [
+        (&[-1, 2], true),
+        (&[-1, 4], true),
+        (&[0, 2], true),
+        (&[0, 4], true),
+        (&[-2, 3], false),
+        (&[1, 3], false),
+        (&[0, 1], false),
+        (&[0, 5], false),
+        (&[], false),
+        (&[0], false),
+        (&[0, 3, 3], false),
+        (&[i64::MIN, i64::MAX], false),
+    ];
+    for (coordinates, want) in cases {
+        let point = point_of(&rt, coordinates);
+        assert_eq!(rt; region.contains(&point), want, "at {coordinates:?}");
+    }
+    Ok(())
+}
+
+#[test]
+fn the_last_axis_runs_fastest(rt: HostRuntime) -> Result<(), Fail> {
+    let cases: [(Pairs<'_>, &[&[i64]]); 3] = [
+        (
+            &[(-1, 0), (2, 4)],
+            &[&[-1, 2], &[-1, 3], &[-1, 4], &[0, 2], &[0, 3], &[0, 4]],
+        ),
+        (
+            &[(-3, -2), (5, 5), (7, 8)],
+            &[&[-3, 5, 7], &[-3, 5, 8], &[-2, 5, 7], &[-2, 5, 8]],
+        ),
+        (&[(9, 9)], &[&[9]]),
+    ];
+    for (pairs, points) in cases {
+        let region = region_of(rt.alloc(), pairs)?;
+        assert_eq!(rt; region.volume(), points.len() as u64, "in {pairs:?}");
+        assert_eq!(rt;
+            Some(region.first_point().as_slice()),
+            points.first().copied()
+        );
+        for (i, coordinates) in points.iter().enumerate() {
+            let place = i as u64;
+            let point = point_of(&rt, coordinates);
+            assert!(rt; region.contains(&point), "{coordinates:?}");
+            assert!(rt; place < region.volume());
+            assert_eq!(rt; region.row_place(&point), place, "of {coordinates:?}");
+            assert_eq!(rt; region.point_at(place), point, "at {place}");
+            let next = region.next_point(&point);
+            let next = next.as_ref().map(|next| next.as_slice());
+            assert_eq!(rt; next, points.get(i + 1).copied(), "after {coordinates:?}");
+        }
+    }
+    Ok(())
+}
+
+#[test]
+fn names_and_texts_have_the_bytes_they_are_given(rt: HostRuntime) -> Result<(), Fail> {
+    let cases: [&[u8]; 3] = [b"", b"G", b"\x00\xff G"];
+    for bytes in cases {
+        let name = Name::of(rt.alloc(), bytes)?;
+        let text = Text::of(rt.alloc(), bytes)?;
+        let copy = name.try_clone(rt.alloc())?;
+        assert_eq!(rt; name.bytes(), bytes);
+        assert_eq!(rt; text.bytes(), bytes);
+        assert_eq!(rt; copy.bytes(), bytes);
+        assert_eq!(rt; copy, name);
+    }
+    Ok(())
+}
+
+#[test]
+fn names_are_compared_byte_by_byte(rt: HostRuntime) -> Result<(), Fail> {
+    let cases: [(&[u8], &[u8], Ordering); 6] = [
+        (b"", b"G", Ordering::Less),
+        (b"G", b"G", Ordering::Equal),
+        (b"G", b"Ga", Ordering::Less),
+        (b"Ga", b"H", Ordering::Less),
+        (b"a", b"G", Ordering::Greater),
+        (b"\x80", b"z", Ordering::Greater),
+    ];
+    for (left, right, want) in cases {
+        let a = Name::of(rt.alloc(), left)?;
+        let b = Name::of(rt.alloc(), right)?;
+        assert_eq!(rt; a.cmp(&b), want, "{left:?}, {right:?}");
+        assert_eq!(rt; a.partial_cmp(&b), Some(want), "{left:?}, {right:?}");
+        assert_eq!(rt; b.cmp(&a), want.reverse(), "{right:?}, {left:?}");
+        assert_eq!(rt; a == b, want == Ordering::Equal, "{left:?}, {right:?}");
+    }
+    Ok(())
+}
+
+#[test]
+fn a_list_has_its_items_in_order(rt: HostRuntime) -> Result<(), Fail> {
+    let mut list = List::new(rt.alloc());
+    for item in [30u32, 10, 20] {
+        assert_eq!(rt; list.push(rt.alloc(), item), Ok(()));
+    }
+    assert_eq!(rt; list.as_slice(), [30, 10, 20].as_slice());
+    let items = list.into_vec();
+    assert_eq!(rt; items.as_slice(), [30, 10, 20].as_slice());
+    let again = List::of(items);
+    assert_eq!(rt; again.as_slice(), [30, 10, 20].as_slice());
+    Ok(())
+}
+
+/// A lock's kind, its name, its object identifier and its place.
+type Parts<'a> = (&'a str, &'a [u8], u64, &'a [i64]);
+
+fn parts_of(lock: &LockName) -> Parts<'_> {
+    match lock {
+        LockName::Collection(name) => ("collection", name.bytes(), 0, &[]),
+        LockName::Domain(name, oid) => ("domain", name.bytes(), *oid, &[]),
+        LockName::Tile(name, oid, place) => ("tile", name.bytes(), *oid, place.as_slice()),
+    }
+}
+
+#[test]
+fn locks_stand_in_order_and_so_do_those_of_a_copy(rt: HostRuntime) -> Result<(), Fail> {
+    let want: [(Parts<'_>, Mode); 3] = [
+        (("collection", b"G", 0, &[]), Mode::Shared),
+        (("domain", b"Ga", 7, &[]), Mode::Exclusive),
+        (("tile", b"H", u64::MAX, &[-1, 4]), Mode::Shared),
+    ];
+    let locks = [
+        LockName::Collection(Name::of(rt.alloc(), b"G")?),
+        LockName::Domain(Name::of(rt.alloc(), b"Ga")?, 7),
+        LockName::Tile(
+            Name::of(rt.alloc(), b"H")?,
+            u64::MAX,
+            point_of(&rt, &[-1, 4]),
+        ),
+    ];
+    let mut list = LockList::new(rt.alloc());
+    assert!(rt; list.is_empty());
+    for (lock, (_, mode)) in locks.into_iter().zip(want) {
+        assert!(rt; list.push(rt.alloc(), lock, mode).is_ok());
+    }
+    let copy = list.try_clone(rt.alloc())?;
+    for list in [&list, &copy] {
+        assert!(rt; !list.is_empty());
+        assert_eq!(rt; list.len(), 3);
+        for (i, (parts, mode)) in want.iter().enumerate() {
+            assert!(rt; i < list.len());
+            let (lock, held) = list.get(i);
+            assert_eq!(rt; (parts_of(lock), held), (*parts, *mode), "at {i}");
+        }
+    }
+    Ok(())
+}
