@@ -1,0 +1,7 @@
+pub mod Faults
+pub mod Failing
+pub mod Gathering
+pub mod Memory
+pub mod Piece
+pub mod Sink
+pub mod Standard
