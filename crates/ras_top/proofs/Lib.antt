@@ -1,0 +1,6 @@
+mod Answered
+mod FirstText
+mod Join
+mod TrimText
+mod Trims
+mod Words

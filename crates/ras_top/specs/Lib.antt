@@ -1,0 +1,6 @@
+pub mod Answer
+pub mod Call
+pub mod ReadAll
+pub mod Report
+pub mod Texts
+pub mod Workload

@@ -1,0 +1,18 @@
+//! The program as one call: words and bytes in, a status and bytes out.
+#![tactic(auto)]
+
+mod answer;
+mod judge;
+mod read_all;
+mod report;
+mod run;
+#[cfg(test)]
+mod tests;
+mod texts;
+mod trimmed;
+mod workload;
+
+pub use run::{rasq_main, rasq_quiet};
+
+/// The most bytes that are read: 64 MiB.
+pub const MOST_BYTES: usize = 67_108_864;

@@ -1,0 +1,66 @@
+//! The calls that the program makes.
+ghost use Rattle.std.specs.Prelude.{◌≡◌, map, string_bytes, IsSome, IfSome};
+ghost use Rattle.ras_top.specs.Answer.{IsRun};
+ghost use Rattle.ras_top.specs.Call.{call_of, IsAnswered};
+
+use crate::answer::send;
+use crate::judge::judge;
+use ras_edges::{Gate, Sink, Source};
+use std::alloc::Global;
+use std::sync::Wait;
+use std::thread::Threads;
+
+/// The status of a call whose text could not be written whole.
+const CUT_SHORT: u8 = 4;
+
+/// One run of the program that waits for nobody: it reads the source, writes one text to the sink
+/// and flushes it, and answers the status.
+///
+/// - 0: the report of the source's workload.
+/// - 1: `refused too long`, the source has more than [`crate::MOST_BYTES`] bytes, or `refused not
+///   built`, they are no workload of a form that is built.
+/// - 2: `refused words`, the words aren't accepted; nothing was read.
+/// - 3: `refused read`, a read failed.
+/// - 4: a write or the flush failed; the sink took a front of the text.
+/// - 5: `refused memory`, want of memory, which may come at any time before the writing starts.
+///
+/// The words don't hold the program's name. None would mean that they want threads; it isn't
+/// answered so far.
+pub fn rasq_quiet<R: Threads + Sync, S: Source, K: Sink>(
+    _rt: &R,
+    alloc: Global,
+    words: &[String],
+    source: &mut S,
+    sink: &mut K,
+) -> Option<u8>
+    ensures always { IsSome result }
+    ensures answered { IfSome result (IsAnswered (call_of S.left S.faults K.taken K.flushed K.faults
+        (map string_bytes words.now) source.old source.new sink.old sink.new)) }
+    ensures unread { ¬ IsRun (map string_bytes words.now) → source.new ≡ source.old }
+{
+    let answer = judge(alloc, words, source);
+    match send(sink, &answer) {
+        Ok(()) => Some(answer.status()),
+        Err(_) => Some(CUT_SHORT),
+    }
+}
+
+/// One run of the program. It answers what [`rasq_quiet`] answers. The gate is for runs on threads,
+/// which there are none of so far.
+pub fn rasq_main<R: Threads + Sync + Wait, S: Source, K: Sink, G: Gate>(
+    rt: &R,
+    alloc: Global,
+    words: &[String],
+    source: &mut S,
+    sink: &mut K,
+    _gate: &G,
+) -> u8
+    ensures answered { IsAnswered (call_of S.left S.faults K.taken K.flushed K.faults
+        (map string_bytes words.now) source.old source.new sink.old sink.new) result }
+    ensures unread { ¬ IsRun (map string_bytes words.now) → source.new ≡ source.old }
+{
+    match rasq_quiet(rt, alloc, words, source, sink) {
+        Some(status) => status,
+        None => unreachable!(),
+    }
+}
