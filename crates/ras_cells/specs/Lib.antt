@@ -1,0 +1,6 @@
+pub mod Atoms
+pub mod Cells
+pub mod Laws
+pub mod Numbers
+pub mod Outcomes
+pub mod Stored

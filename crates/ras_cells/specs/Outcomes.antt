@@ -1,0 +1,7 @@
+-- An outcome is a value or a fault. Outcomes are joined from left to right, so the first fault is the fault of the whole.
+use Rattle.std.specs.Prelude.{Result, Ok, Err}
+
+infixl 10 ◌>>=◌
+abbrev pub ◌>>=◌ : {A B E : Type 0} → Result A E → (A → Result B E) → Result B E
+(Ok value) >>= next = next value
+(Err fault) >>= next = Err fault
