@@ -170,7 +170,7 @@ impl Sink for FailingSink {
 
         ensures listed { Contains (failing_calls self.old) (one_more (calls_made self.old)) → IsErr result }
         ensures why { OnErr result (Contains (failing_calls self.old) (one_more (calls_made self.old))
-            ⊎ (length (taken_of (sink_of self.old)) ≡ room_of (sink_of self.old))) }
+            ⊎ ((0 < length piece.now) × (length (taken_of (sink_of self.old)) ≡ room_of (sink_of self.old)))) }
         ensures what_fits { IfOk result (λ n.
             n ≡ min (length piece.now) (room_of (sink_of self.old) - length (taken_of (sink_of self.old)))) }
         ensures made { calls_made self.new ≡ one_more (calls_made self.old) }

@@ -112,7 +112,7 @@ impl Sink for MemorySink {
 
         ensures what_fits { IfOk result (λ n.
             n ≡ min (length piece.now) (room_of self.old - length (taken_of self.old))) }
-        ensures full { OnErr result (length (taken_of self.old) ≡ room_of self.old) }
+        ensures full { OnErr result ((0 < length piece.now) × (length (taken_of self.old) ≡ room_of self.old)) }
         ensures no_fault { OnOk result (faults_of self.new ≡ faults_of self.old) }
         ensures one_fault { OnErr result (faults_of self.new ≡ one_more (faults_of self.old)) }
         ensures room { room_of self.new ≡ room_of self.old }
