@@ -8,7 +8,7 @@ use Rattle.std.proofs.lemmas.Option.{slice_get-map, get_or_from_slice_get}
 use Rattle.ras_domain.specs.declared.region.Interval.{Interval}
 use Rattle.ras_domain.specs.Region.{IsIn, points_of}
 use Rattle.ras_core.specs.First.{g_domain, cell_of, cells_of}
-use Rattle.ras_core.proofs.Walks.{IsIn-at_place}
+use Rattle.ras_domain.proofs.Walks.{IsIn-at_place}
 
 -- a point of G has two coordinates, from 0 to 3
 by_coordinates : (P : List ℤ → Type 0) → ((i j : ℤ) → pos 0 ≤ℤ i → i ≤ℤ pos 3 → pos 0 ≤ℤ j → j ≤ℤ pos 3 → P (i ∷ j ∷ [])) → (p : List ℤ) → IsIn p g_domain → P p

@@ -1,11 +1,13 @@
 //! Laws of the definitions, each the contract of a function that does nothing.
-ghost use Rattle.std.specs.Prelude.{List, ℤ, ◌≡◌, ◌↔◌, Contains};
+ghost use Rattle.std.specs.Prelude.{List, ℤ, ℕ, ◌≡◌, ◌<◌, ◌↔◌, length, All, Contains};
+ghost use Rattle.std.specs.List.{remove};
 ghost use Rattle.std.specs.Ordering.{int_cmp};
 ghost use Rattle.std.specs.List.Sorted.{IsStrictlySortedBy};
 ghost use Rattle.std.specs.Cmp.Lexicographic.{slice_cmp};
 ghost use Rattle.ras_domain.specs.declared.region.Interval.{Interval};
 ghost use Rattle.ras_domain.specs.declared.region.DomainFault.{DomainFault};
-ghost use Rattle.ras_domain.specs.Region.{points_of, IsIn, IsRegion, HasFault};
+ghost use Rattle.ras_domain.specs.Region.{points_of, IsIn, IsOrdered, IsRegion, HasFault};
+ghost use Rattle.ras_domain.specs.Boxes.{IsMeeting, IsHull, IsShifted, IsCut, meet_of, hull_of, moved_by, shifted_by};
 
 /// The points of a box are those with one coordinate from each interval.
 pub fn points_are_those_within()
@@ -25,4 +27,36 @@ pub fn faults_exclude_each_other()
 /// A region has no fault.
 pub fn regions_have_no_fault()
     ensures { (axes : List Interval) (f : DomainFault) → IsRegion axes → ¬ HasFault axes f }
+{}
+
+/// Two regions with the same points are the same.
+pub fn regions_are_their_points()
+    ensures { (a b : List Interval) → IsRegion a → IsRegion b → ((p : List ℤ) → IsIn p a ↔ IsIn p b) → a ≡ b }
+{}
+
+/// The box made axis by axis from the greater lower and the lesser upper bounds has the points of
+/// both boxes.
+pub fn meeting_has_the_points_in_both()
+    ensures { (a b : List Interval) → length a ≡ length b → IsMeeting (meet_of a b) a b }
+{}
+
+/// The box made axis by axis from the lesser lower and the greater upper bounds is the hull.
+pub fn hull_is_the_least_box()
+    ensures { (a b : List Interval) → length a ≡ length b → All IsOrdered a → All IsOrdered b → IsHull (hull_of a b) a b }
+{}
+
+/// A point is in a box exactly where the moved point is in the moved box.
+pub fn shifted_points_are_in_the_shifted_box()
+    ensures { (d : List ℤ) (axes : List Interval) → IsShifted d axes (shifted_by d axes) }
+{}
+
+/// Each point of a moved box is a moved point of the box.
+pub fn shifted_box_has_shifted_points_alone()
+    ensures { (d : List ℤ) (axes : List Interval) (q : List ℤ) → IsIn q (shifted_by d axes)
+        → (p : List ℤ) × IsIn p axes × (q ≡ moved_by d p) }
+{}
+
+/// Without one interval, a box has its points with that coordinate left out.
+pub fn cut_box_has_the_cut_points()
+    ensures { (axis : ℕ) (axes : List Interval) → All IsOrdered axes → axis < length axes → IsCut axis axes (remove axes axis) }
 {}

@@ -1,6 +1,7 @@
 //! Points, boxes and lock names: the words that the other crates share.
 #![tactic(auto)]
 
+mod boxes;
 pub mod laws;
 mod list;
 mod lock;

@@ -1,8 +1,9 @@
-ghost use Rattle.std.specs.Prelude.{◌≡◌, ◌+◌, ◌<◌, ◌≤◌, ◌↔◌, List, ℤ, ℕ, [], length, slice_get, option_map, Some, All, IfOk, IfErr, IsTrue};
+ghost use Rattle.std.specs.Prelude.{◌≡◌, ◌+◌, ◌<◌, ◌≤◌, ◌↔◌, List, ℤ, ℕ, [], length, slice_get, option_map, Some, All, Any, IsSome, IsNone, IfSome, IsErr, IfOk, IfErr, IsTrue};
+ghost use Rattle.std.specs.List.{remove};
 ghost use Rattle.ras_domain.specs.Region.{HasSmallBounds, IsOrdered, IsRegion, IsIn, extent_of, points_of};
 
 use crate::rows::{first_of, next_of, place_of, point_of};
-use crate::{MAX_AXES, MAX_POINTS};
+use crate::{MAX_AXES, MAX_POINTS, boxes};
 use arrayvec::ArrayVec;
 use std::marker::Model;
 
@@ -55,7 +56,9 @@ impl Model for Region {
 }
 
 impl Region {
-    ghost use Rattle.ras_domain.specs.Region.{IsRegion, HasFault, IsIn, points_of, place_in_rows};
+    ghost use Rattle.ras_domain.specs.Region.{IsRegion, HasFault, HasSmallBounds, IsIn, points_of, place_in_rows};
+    ghost use Rattle.ras_domain.specs.Boxes.{Covers, AreDisjoint, IsMeeting, IsHull, IsShifted, IsCut, meet_of, hull_of, shifted_by};
+    ghost use Rattle.ras_domain.specs.declared.region.DomainFault.TheVariants.{BoundOut, TooLarge};
 
     /// The box of these intervals, or the first fault in the order of [`DomainFault`].
     pub fn new(axes: &[Interval]) -> Result<Region, DomainFault>
@@ -93,6 +96,79 @@ impl Region {
         ensures { IsTrue result ↔ IsIn p.now.items self.now }
     {
         has_point(self.axes(), p.as_slice())
+    }
+
+    /// Whether each point of `r` is in this region. It is false where their numbers of axes differ.
+    pub fn covers(&self, r: &Region) -> bool
+        ensures { IsTrue result ↔ Covers self.now r.now }
+    {
+        boxes::covers(self.axes(), r.axes())
+    }
+
+    /// The region of the points in both, and None exactly where there is none.
+    pub fn meet(&self, r: &Region) -> Option<Region>
+        requires { length self.now ≡ length r.now }
+        ensures points { IfSome result (λ both. IsMeeting both self.now r.now) }
+        ensures axes { IfSome result (λ both. both ≡ meet_of self.now r.now) }
+        ensures region { IfSome result IsRegion }
+        ensures none { IsNone result ↔ AreDisjoint self.now r.now }
+    {
+        let axes = boxes::meet_of(self.axes(), r.axes());
+        if !boxes::is_ordered(axes.as_slice()) {
+            return None;
+        }
+        Some(Region { axes })
+    }
+
+    /// The least region with the points of both. The error is [`DomainFault::TooLarge`], exactly where
+    /// the least box with these points has more than [`MAX_POINTS`].
+    pub fn hull(&self, r: &Region) -> Result<Region, DomainFault>
+        requires { length self.now ≡ length r.now }
+        ensures points { IfOk result (λ hull. IsHull hull self.now r.now) }
+        ensures axes { IfOk result (λ hull. hull ≡ hull_of self.now r.now) }
+        ensures region { IfOk result IsRegion }
+        ensures fault { IfErr result (λ fault. fault ≡ TooLarge) }
+        ensures too_large { IsErr result ↔ (MAX_POINTS < length (points_of (hull_of self.now r.now))) }
+    {
+        let axes = boxes::hull_of(self.axes(), r.axes());
+        if !has_few_points(axes.as_slice()) {
+            return Err(DomainFault::TooLarge);
+        }
+        Ok(Region { axes })
+    }
+
+    /// The region moved by `d`, an offset for each axis. The error is [`DomainFault::BoundOut`], exactly
+    /// where a moved bound leaves -2^31 to 2^31 - 1.
+    pub fn shift_by(&self, d: &[i64]) -> Result<Region, DomainFault>
+        requires { length d.now ≡ length self.now }
+        ensures points { IfOk result (λ shifted. IsShifted d.now self.now shifted) }
+        ensures axes { IfOk result (λ shifted. shifted ≡ shifted_by d.now self.now) }
+        ensures region { IfOk result IsRegion }
+        ensures fault { IfErr result (λ fault. fault ≡ BoundOut) }
+        ensures bound_out { IsErr result ↔ Any (λ axis. ¬ HasSmallBounds axis) (shifted_by d.now self.now) }
+    {
+        let Some(axes) = boxes::shifted_by(self.axes(), d) else {
+            return Err(DomainFault::BoundOut);
+        };
+        Ok(Region { axes })
+    }
+
+    /// The region of the points with the coordinate on this axis left out, and None exactly where no
+    /// other axis is left.
+    pub fn cut_axis(&self, axis: usize) -> Option<Region>
+        requires { axis < length self.now }
+        ensures points { IfSome result (λ cut. IsCut axis self.now cut) }
+        ensures axes { IfSome result (λ cut. cut ≡ remove self.now axis) }
+        ensures region { IfSome result IsRegion }
+        ensures none { IsNone result ↔ (length self.now ≡ 1) }
+    {
+        let axes = self.axes();
+        if axes.len() == 1 {
+            return None;
+        }
+        Some(Region {
+            axes: boxes::cut_axis(axes, axis),
+        })
     }
 
     /// How many points there are.
@@ -136,7 +212,8 @@ impl Region {
     }
 }
 
-fn has_small_bounds(axis: &Interval) -> bool
+/// Whether both bounds are numbers of 32 bits.
+pub(crate) fn has_small_bounds(axis: &Interval) -> bool
     ensures { IsTrue result ↔ HasSmallBounds axis.now }
 {
     i32::try_from(axis.lo).is_ok() && i32::try_from(axis.hi).is_ok()

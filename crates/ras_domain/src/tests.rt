@@ -151,6 +151,175 @@ fn the_last_axis_runs_fastest(rt: HostRuntime) -> Result<(), Fail> {
 }
 
 #[test]
+fn a_region_covers_those_that_lie_in_it(rt: HostRuntime) -> Result<(), Fail> {
+    let cases: [(Pairs<'_>, Pairs<'_>, bool); 13] = [
+        // Equal boxes, and nested ones.
+        (&[(-2, 3)], &[(-2, 3)], true),
+        (&[(-2, 3)], &[(-1, 2)], true),
+        (&[(-2, 3)], &[(3, 3)], true),
+        (&[(-1, 2)], &[(-2, 3)], false),
+        (&[(-2, 3), (0, 9)], &[(-2, 3), (4, 9)], true),
+        // One bound too far.
+        (&[(-2, 3)], &[(-3, 3)], false),
+        (&[(-2, 3)], &[(-2, 4)], false),
+        (&[(-2, 3), (0, 9)], &[(-2, 3), (4, 10)], false),
+        (&[(-2, 3), (0, 9)], &[(-3, 3), (4, 9)], false),
+        // Disjoint boxes.
+        (&[(-2, 3)], &[(4, 5)], false),
+        // Other numbers of axes.
+        (&[(-2, 3)], &[(-2, 3), (-2, 3)], false),
+        (&[(-2, 3), (-2, 3)], &[(-2, 3)], false),
+        (&[(0, 1); 6], &[(0, 0); 6], true),
+    ];
+    for (big, small, want) in cases {
+        let region = region_of(rt.alloc(), big)?;
+        let other = region_of(rt.alloc(), small)?;
+        assert_eq!(rt; region.covers(&other), want, "{big:?}, {small:?}");
+    }
+    Ok(())
+}
+
+/// Two boxes with as many axes, and what comes of them.
+type Two<'a, T> = (Pairs<'a>, Pairs<'a>, T);
+
+#[test]
+fn two_regions_meet_in_the_points_of_both(rt: HostRuntime) -> Result<(), Fail> {
+    let cases: [Two<'_, Option<Pairs<'_>>>; 9] = [
+        // Equal boxes, nested ones and ones that overlap.
+        (&[(-2, 3)], &[(-2, 3)], Some(&[(-2, 3)])),
+        (&[(-9, 9)], &[(-2, 3)], Some(&[(-2, 3)])),
+        (&[(-9, 2)], &[(-2, 3)], Some(&[(-2, 2)])),
+        (
+            &[(-5, -1), (0, 9)],
+            &[(-3, 4), (-7, 6)],
+            Some(&[(-3, -1), (0, 6)]),
+        ),
+        // One common number on an axis.
+        (&[(-5, -1)], &[(-1, 4)], Some(&[(-1, -1)])),
+        // Touching boxes, and disjoint ones.
+        (&[(-5, -1)], &[(0, 4)], None),
+        (&[(-5, -1)], &[(7, 9)], None),
+        (&[(-5, -1), (0, 9)], &[(-3, 4), (10, 12)], None),
+        (&[(-5, -1), (0, 9)], &[(0, 4), (2, 3)], None),
+    ];
+    for (first, second, want) in cases {
+        let a = region_of(rt.alloc(), first)?;
+        let b = region_of(rt.alloc(), second)?;
+        let want = match want {
+            Some(pairs) => Some(region_of(rt.alloc(), pairs)?),
+            None => None,
+        };
+        assert!(rt; a.axes().len() == b.axes().len());
+        assert_eq!(rt; a.meet(&b), want, "{first:?}, {second:?}");
+        assert_eq!(rt; b.meet(&a), want, "{second:?}, {first:?}");
+    }
+    Ok(())
+}
+
+#[test]
+fn the_hull_is_the_least_region_round_two(rt: HostRuntime) -> Result<(), Fail> {
+    let too_large = Err(DomainFault::TooLarge);
+    let cases: [Two<'_, Result<Pairs<'_>, DomainFault>>; 8] = [
+        // Equal boxes, nested ones, touching ones and disjoint ones.
+        (&[(-2, 3)], &[(-2, 3)], Ok(&[(-2, 3)])),
+        (&[(-9, 9)], &[(-2, 3)], Ok(&[(-9, 9)])),
+        (&[(-5, -1)], &[(0, 4)], Ok(&[(-5, 4)])),
+        (&[(-5, -3)], &[(7, 9)], Ok(&[(-5, 9)])),
+        (
+            &[(-5, -1), (0, 9)],
+            &[(-3, 4), (-7, 6)],
+            Ok(&[(-5, 4), (-7, 9)]),
+        ),
+        // 2^24 points, and one more.
+        (
+            &[(-1, -1)],
+            &[(16_777_214, 16_777_214)],
+            Ok(&[(-1, 16_777_214)]),
+        ),
+        (&[(-1, -1)], &[(16_777_215, 16_777_215)], too_large),
+        (
+            &[(-2_147_483_648, -2_147_483_648); 6],
+            &[(2_147_483_647, 2_147_483_647); 6],
+            too_large,
+        ),
+    ];
+    for (first, second, want) in cases {
+        let a = region_of(rt.alloc(), first)?;
+        let b = region_of(rt.alloc(), second)?;
+        let want = match want {
+            Ok(pairs) => Ok(region_of(rt.alloc(), pairs)?),
+            Err(fault) => Err(fault),
+        };
+        assert!(rt; a.axes().len() == b.axes().len());
+        assert_eq!(rt; a.hull(&b), want, "{first:?}, {second:?}");
+        assert_eq!(rt; b.hull(&a), want, "{second:?}, {first:?}");
+    }
+    Ok(())
+}
+
+#[test]
+fn a_region_moves_up_to_the_bounds(rt: HostRuntime) -> Result<(), Fail> {
+    let out = Err(DomainFault::BoundOut);
+    let cases: [(Pairs<'_>, &[i64], Result<Pairs<'_>, DomainFault>); 11] = [
+        (&[(-2, 3)], &[0], Ok(&[(-2, 3)])),
+        (&[(-2, 3)], &[5], Ok(&[(3, 8)])),
+        (&[(-2, 3), (4, 9)], &[-7, 1], Ok(&[(-9, -4), (5, 10)])),
+        (
+            &[(-2, 3)],
+            &[2_147_483_644],
+            Ok(&[(2_147_483_642, 2_147_483_647)]),
+        ),
+        (&[(-2, 3)], &[2_147_483_645], out),
+        (
+            &[(-2, 3)],
+            &[-2_147_483_646],
+            Ok(&[(-2_147_483_648, -2_147_483_643)]),
+        ),
+        (&[(-2, 3)], &[-2_147_483_647], out),
+        (
+            &[(2_147_483_647, 2_147_483_647)],
+            &[-4_294_967_295],
+            Ok(&[(-2_147_483_648, -2_147_483_648)]),
+        ),
+        (&[(-2, 3)], &[i64::MAX], out),
+        (&[(-2, 3)], &[i64::MIN], out),
+        (&[(0, 0), (2_147_483_647, 2_147_483_647)], &[0, 1], out),
+    ];
+    for (pairs, offsets, want) in cases {
+        let region = region_of(rt.alloc(), pairs)?;
+        let want = match want {
+            Ok(pairs) => Ok(region_of(rt.alloc(), pairs)?),
+            Err(fault) => Err(fault),
+        };
+        assert!(rt; offsets.len() == region.axes().len());
+        assert_eq!(rt; region.shift_by(offsets), want, "{pairs:?}, {offsets:?}");
+    }
+    Ok(())
+}
+
+#[test]
+fn an_axis_is_left_out(rt: HostRuntime) -> Result<(), Fail> {
+    let cases: [(Pairs<'_>, usize, Option<Pairs<'_>>); 6] = [
+        (&[(-2, 3), (4, 9), (7, 7)], 0, Some(&[(4, 9), (7, 7)])),
+        (&[(-2, 3), (4, 9), (7, 7)], 1, Some(&[(-2, 3), (7, 7)])),
+        (&[(-2, 3), (4, 9), (7, 7)], 2, Some(&[(-2, 3), (4, 9)])),
+        (&[(-2, 3), (4, 9)], 0, Some(&[(4, 9)])),
+        (&[(-2, 3), (4, 9)], 1, Some(&[(-2, 3)])),
+        (&[(-2, 3)], 0, None),
+    ];
+    for (pairs, axis, want) in cases {
+        let region = region_of(rt.alloc(), pairs)?;
+        let want = match want {
+            Some(pairs) => Some(region_of(rt.alloc(), pairs)?),
+            None => None,
+        };
+        assert!(rt; axis < region.axes().len());
+        assert_eq!(rt; region.cut_axis(axis), want, "{pairs:?} without {axis}");
+    }
+    Ok(())
+}
+
+#[test]
 fn names_and_texts_have_the_bytes_they_are_given(rt: HostRuntime) -> Result<(), Fail> {
     let cases: [&[u8]; 3] = [b"", b"G", b"\x00\xff G"];
     for bytes in cases {

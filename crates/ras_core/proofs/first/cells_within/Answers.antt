@@ -1,7 +1,7 @@
 use Rattle.std.proofs.Common.{◌≡◌, ◌++◌, ◌∷◌, []}
 use Rattle.ras_core.specs.First.{cell_of}
 use Rattle.ras_core.proofs.Cells.{cell_of-at_place}
-use Rattle.ras_core.proofs.Walks.{IsWalk-more, IsWalk-within, IsWalk-falls, IsWalk-end}
+use Rattle.ras_domain.proofs.Walks.{IsWalk-more, IsWalk-within, IsWalk-falls, IsWalk-end}
 use Rattle.ras_core.proofs.first.cells_within.Goals as goal
 
 pub row_place-requires : goal.row_place-requires

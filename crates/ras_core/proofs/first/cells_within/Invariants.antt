@@ -1,7 +1,7 @@
 use Rattle.std.proofs.Common.{◌-◌, length, option_map}
 use Rattle.ras_domain.specs.Region.{points_of}
 use Rattle.ras_core.specs.First.{cell_of}
-use Rattle.ras_core.proofs.Walks.{IsWalk}
+use Rattle.ras_domain.proofs.Walks.{IsWalk}
 use Rattle.ras_core.proofs.first.cells_within.Given as goal
 
 abbrev pub invariant-loop-next : goal.invariant-loop-next

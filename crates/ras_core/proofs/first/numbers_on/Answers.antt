@@ -1,6 +1,6 @@
 use Rattle.ras_core.specs.First.{cell_of}
 use Rattle.ras_core.proofs.Cells.{cell_of-made}
-use Rattle.ras_core.proofs.Walks.{IsWalk-more, IsWalk-within}
+use Rattle.ras_domain.proofs.Walks.{IsWalk-more, IsWalk-within}
 use Rattle.ras_core.proofs.first.numbers_on.Goals as goal
 
 pub loop-next-preserved : goal.loop-next-preserved

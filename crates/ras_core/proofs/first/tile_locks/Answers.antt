@@ -1,6 +1,6 @@
 use Rattle.std.proofs.Common.{◌≡◌, ◌++◌, ◌∷◌, []}
 use Rattle.ras_core.specs.First.{tile_lock}
-use Rattle.ras_core.proofs.Walks.{IsWalk-more, IsWalk-within, IsWalk-falls, IsWalk-end}
+use Rattle.ras_domain.proofs.Walks.{IsWalk-more, IsWalk-within, IsWalk-falls, IsWalk-end}
 use Rattle.ras_core.proofs.first.tile_locks.Goals as goal
 
 pub next_point-next-requires : goal.next_point-next-requires

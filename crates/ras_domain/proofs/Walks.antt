@@ -53,3 +53,12 @@ IsWalk-end f axes made h =
     let ps : List (List ℤ) = points_of axes in
     let past : length ps ≤ length made = elim (slice_get_cases ps (length made)).1 [ inl at ↦ absurd (none-some at.0 (h.next_is ∙ at.2)) | inr at ↦ at.0 ] in
     h.made_is ∙ ap (map f) (take_all (length made) ps past)
+
+-- what was made of each point, and the point that is read from it again
+map_back : {A : Type 0} (f : List ℤ → A) (back : A → List ℤ) → ((p : List ℤ) → back (f p) ≡ p) → (ps : List (List ℤ)) → map back (map f ps) ≡ ps
+map_back f back reads [] = refl
+map_back f back reads (p ∷ ps) = let first = reads p in let rest = map_back f back reads ps in cc
+
+-- after the last point, where each item tells its point
+pub IsWalk-read : {A : Type 0} (f : List ℤ → A) (back : A → List ℤ) → ((p : List ℤ) → back (f p) ≡ p) → (axes : List Interval) (made : List A) → IsWalk f axes None made → map back made ≡ points_of axes
+IsWalk-read f back reads axes made h = ap (map back) (IsWalk-end f axes made h) ∙ map_back f back reads (points_of axes)

@@ -1,0 +1,6 @@
+use Rattle.std.proofs.Common.{◌≡◌, length, take}
+use Rattle.ras_domain.specs.Boxes.{hull_of}
+use Rattle.ras_domain.proofs.boxes.hull_of.Given as goal
+
+abbrev pub invariant-loop-first : goal.invariant-loop-first
+invariant-loop-first l = l.bounds.items ≡ take (length l.yielded) (hull_of l.a l.b)
