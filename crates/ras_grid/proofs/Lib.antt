@@ -1,0 +1,3 @@
+pub mod Floors
+pub mod Tiles
+pub mod Zips

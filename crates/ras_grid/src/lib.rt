@@ -1,0 +1,10 @@
+//! The grid of tiles: in which tile a point lies, which box a tile has, and which tiles a region
+//! meets.
+#![tactic(auto)]
+
+mod grid;
+pub mod laws;
+#[cfg(test)]
+mod tests;
+
+pub use grid::{Extents, count_meeting, tile_box, tile_of, tiles_meeting};
