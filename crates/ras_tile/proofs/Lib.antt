@@ -1,0 +1,4 @@
+pub mod Cells
+pub mod Copying
+mod Covers
+pub mod RowPlaces

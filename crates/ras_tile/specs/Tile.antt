@@ -1,0 +1,30 @@
+-- Tiles: boxes of points with a list of numbers at each point.
+use Rattle.std.specs.Prelude.{◌≡◌, ℕ, ℤ, ◌≤◌, Bool, true, List, length, replicate, slice_get, Option, All}
+use Rattle.ras_cells.specs.declared.TheConstants.{MAX_COMPONENTS}
+use Rattle.ras_domain.specs.declared.region.Interval.{Interval}
+use Rattle.ras_domain.specs.Region.{IsRegion, points_of, place_in_rows}
+use Rattle.ras_tile.specs.declared.TheConstants.{MAX_CELLS}
+
+-- a box, how many numbers each cell has, the cells of the box's points in row-major order, and whether they may be written
+pub record TileValue : Type 0 where
+  pub region : List Interval
+  pub width : ℕ
+  pub cells : List (List ℤ)
+  pub writable : Bool
+
+-- the cell at a point of the box
+abbrev pub cell_at : TileValue → List ℤ → Option (List ℤ)
+cell_at tile p = slice_get tile.cells (place_in_rows tile.region p)
+
+-- the box is a small region, and each of its points has a cell of as many numbers as the tile's width
+pub record IsTile (tile : TileValue) : Type 0 where
+  pub box : IsRegion tile.region
+  pub few_cells : length (points_of tile.region) ≤ MAX_CELLS
+  pub few_numbers : tile.width ≤ MAX_COMPONENTS
+  pub each_point : length tile.cells ≡ length (points_of tile.region)
+  pub each_width : All (λ cell. length cell ≡ tile.width) tile.cells
+
+-- the writable tile on a box that has these numbers at each point
+abbrev pub filled_tile : List Interval → List ℤ → TileValue
+filled_tile box numbers =
+    record { region = box; width = length numbers; cells = replicate (length (points_of box)) numbers; writable = true }

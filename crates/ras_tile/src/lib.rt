@@ -1,0 +1,13 @@
+//! Tiles, the unit of storage: boxes of points with a list of numbers at each point.
+#![tactic(auto)]
+
+pub mod laws;
+mod rows;
+#[cfg(test)]
+mod tests;
+mod tile;
+
+pub use tile::Tile;
+
+/// The most cells that a tile may have: 2^16.
+pub const MAX_CELLS: u64 = 65_536;
