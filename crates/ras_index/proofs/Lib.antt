@@ -1,0 +1,7 @@
+pub mod Boxes
+pub mod Copies
+pub mod Lists
+pub mod Maps
+pub mod Ready
+pub mod Search
+pub mod Slots
