@@ -1,0 +1,2 @@
+pub mod CheckedCases
+pub mod CheckedForms

@@ -1,0 +1,12 @@
+pub mod Check
+pub mod CheckStatement
+pub mod Database
+pub mod Eval
+pub mod Fold
+pub mod Kinds
+pub mod Names
+pub mod Reach
+pub mod Shape
+pub mod Tree
+pub mod Worked
+pub mod WorkedChecks

@@ -1,0 +1,118 @@
+-- A small database and expressions over it, whose values are worked out by hand. The laws of worked expressions speak of
+-- them.
+use Rattle.std.specs.Prelude.{ℕ, ℤ, pos, ◌+ℤ◌, ◌*ℤ◌, List, [], ◌∷◌, map, codes}
+use Rattle.ras_cells.specs.declared.atom.Atom.TheVariants as atoms
+use Rattle.ras_cells.specs.declared.cell.Cell.{Cell}
+use Rattle.ras_cells.specs.declared.cell.Cell.TheVariants.{Value}
+use Rattle.ras_cells.specs.declared.cell.CellType.{CellType}
+use Rattle.ras_cells.specs.declared.cell.CellType.TheVariants as types
+use Rattle.ras_cells.specs.declared.numbers.Op1.TheVariants as one
+use Rattle.ras_cells.specs.declared.numbers.Op2.{Op2}
+use Rattle.ras_domain.specs.declared.region.Interval.{Interval}
+use Rattle.ras_domain.specs.Region.{points_of}
+use Rattle.ras_syntax.specs.declared.span.Span.{Span}
+use Rattle.ras_syntax.specs.declared.types.SetType.{SetType}
+use Rattle.ras_syntax.specs.declared.typed.Kind.{Kind}
+use Rattle.ras_syntax.specs.declared.typed.Kind.TheVariants as kinds
+use Rattle.ras_meaning.specs.Database.{Array}
+use Rattle.ras_meaning.specs.Eval.{Scope}
+use Rattle.ras_meaning.specs.Tree.{Tree, Form, Domain, node, number, iterator, coordinate, unary, binary, index, trim, no_axes, edge, pairs, no_pairs, bounds}
+
+-- ---- arrays
+
+abbrev pub axis : ℤ → ℤ → Interval
+axis lo hi = record { lo = lo; hi = hi }
+
+-- 4 times the first coordinate and the second
+abbrev pub four_and : List ℤ → ℤ
+four_and [] = pos 0
+four_and (i ∷ []) = pos 4 *ℤ i
+four_and (i ∷ j ∷ rest) = (pos 4 *ℤ i) +ℤ j
+
+abbrev pub first_of : List ℤ → ℤ
+first_of [] = pos 0
+first_of (i ∷ rest) = i
+
+-- the box from 0 to 3 on two axes, and on one
+abbrev pub square : List Interval
+square = axis (pos 0) (pos 3) ∷ axis (pos 0) (pos 3) ∷ []
+
+abbrev pub line : List Interval
+line = axis (pos 0) (pos 3) ∷ []
+
+abbrev pub array_on : List Interval → (List ℤ → List ℤ) → Array
+array_on domain cells = record { domain = domain; stored = map (λ p. (p, cells p)) (points_of domain) }
+
+abbrev pub set_type : CellType → List (ℤ × ℤ) → SetType
+set_type cell nulls = record {
+  name = [];
+  cell = cell;
+  names = [];
+  bounds = record { items = [] };
+  extents = record { items = [] };
+  nulls = record { items = nulls };
+}
+
+abbrev pub char : CellType
+char = types.Atom atoms.Char
+
+abbrev pub rgb : CellType
+rgb = types.Composite (record { items = atoms.Char ∷ atoms.Char ∷ atoms.Char ∷ [] })
+
+-- a scope with one iterator a
+abbrev pub one_array : SetType → Array → Scope
+one_array of array =
+    record { row = record { iterator = codes "a"; oid = 1; of = of; array = array } ∷ []; variables = [] }
+
+-- G: 0 to 15 on a square. N: zeros that read as null. R: red, green and blue
+abbrev pub over_G : Scope
+over_G = one_array (set_type char []) (array_on square (λ p. four_and p ∷ []))
+
+abbrev pub over_N : Scope
+over_N = one_array (set_type char ((pos 0, pos 0) ∷ [])) (array_on line (λ p. pos 0 ∷ []))
+
+abbrev pub over_R : Scope
+over_R = one_array (set_type rgb []) (array_on (axis (pos 0) (pos 1) ∷ []) (λ p. first_of p ∷ pos 10 ∷ pos 20 ∷ []))
+
+-- ---- expressions; where no rule looks at a span or a kind, they are these
+
+abbrev pub somewhere : Span
+somewhere = record { from = 0; to = 0 }
+
+abbrev pub wide : Kind
+wide = kinds.Scalar (types.Atom atoms.Wide)
+
+abbrev pub e : Form → Tree
+e form = node somewhere wide form
+
+abbrev pub a : Tree
+a = e (iterator 0)
+
+abbrev pub n : ℕ → Tree
+n k = e (number (pos k) atoms.Wide)
+
+abbrev pub minus : Tree → Tree
+minus x = e (unary one.Neg x)
+
+abbrev pub op : Op2 → Tree → Tree → Tree
+op o x y = e (binary o x y)
+
+-- coordinate k of the variable p
+abbrev pub p : ℕ → Tree
+p k = e (coordinate (codes "p") (pos k))
+
+-- a[lo:hi,lo:hi]
+abbrev pub trimmed : ℕ → ℕ → ℕ → ℕ → Tree
+trimmed l0 h0 l1 h1 = e (index a (trim (edge (n l0)) (edge (n h0)) (trim (edge (n l1)) (edge (n h1)) no_axes)))
+
+-- [lo:hi]
+abbrev pub from_to : ℕ → ℕ → Domain
+from_to lo hi = bounds (pairs (n lo) (n hi) no_pairs)
+
+-- ---- answers
+
+abbrev pub numbers : List ℤ → List Cell
+numbers = map (λ z. Value (record { items = z ∷ [] }))
+
+abbrev pub naturals : List ℕ → List Cell
+naturals ks = numbers (map pos ks)
