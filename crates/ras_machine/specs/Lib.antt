@@ -1,0 +1,9 @@
+pub mod Agree
+pub mod Answer
+pub mod Locks
+pub mod Machine
+pub mod ReachLaw
+pub mod Rows
+pub mod Statement
+pub mod Validity
+pub mod WorkedStatements

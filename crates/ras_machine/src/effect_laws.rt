@@ -1,0 +1,36 @@
+//! Laws of answers, effects and agreement. Each is the contract of a function that does nothing.
+ghost use Rattle.std.specs.Prelude.{◌≡◌, ◌⊎◌, List, ℕ, Contains, Ok, Err};
+ghost use Rattle.ras_domain.specs.declared.lock.LockName.{LockName};
+ghost use Rattle.ras_domain.specs.declared.lock.Mode.{Mode};
+ghost use Rattle.ras_syntax.specs.declared.types.SetType.{SetType};
+ghost use Rattle.ras_syntax.specs.declared.typed.CheckedSource.{CheckedSource};
+ghost use Rattle.ras_machine.specs.Agree.{Agrees};
+ghost use Rattle.ras_machine.specs.Answer.{IsAnswered, answer_of, effect_of};
+ghost use Rattle.ras_meaning.specs.Database.{Database};
+ghost use Rattle.ras_machine.specs.Locks.{Lock};
+ghost use Rattle.ras_machine.specs.Statement.{StatementTree, select};
+ghost use Rattle.ras_meaning.specs.Tree.{Tree, Condition};
+
+/// A statement that isn't answered by values or as done leaves the database as it was.
+pub fn faults_have_no_effect()
+    ensures { (statement : StatementTree) (database : Database)
+        → IsAnswered (answer_of statement database) ⊎ (effect_of statement database ≡ database) }
+{}
+
+/// A select leaves the database as it was.
+pub fn selects_have_no_effect()
+    ensures { (body : Tree) (sources : List CheckedSource) (condition : Condition) (length : ℕ) (database : Database)
+        → effect_of (record { request = select body sources condition; length = length }) database ≡ database }
+{}
+
+/// Agreement on a list is an equivalence, and it is kept by a list of fewer locks.
+pub fn agreement_is_an_equivalence()
+    ensures reflexive { (types : List SetType) (list : List Lock) (one : Database) → Agrees types list one one }
+    ensures symmetric { (types : List SetType) (list : List Lock) (one other : Database)
+        → Agrees types list one other → Agrees types list other one }
+    ensures transitive { (types : List SetType) (list : List Lock) (one other third : Database)
+        → Agrees types list one other → Agrees types list other third → Agrees types list one third }
+    ensures fewer { (types : List SetType) (list fewer : List Lock) (one other : Database)
+        → ((lock : Lock) → Contains fewer lock → Contains list lock) → Agrees types list one other
+        → Agrees types fewer one other }
+{}
