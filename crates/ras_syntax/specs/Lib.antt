@@ -1,1 +1,2 @@
 pub mod CellList
+pub mod Literals
