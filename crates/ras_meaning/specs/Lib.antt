@@ -2,11 +2,14 @@ pub mod Check
 pub mod CheckStatement
 pub mod Database
 pub mod Eval
+pub mod Fits
 pub mod Fold
 pub mod Kinds
 pub mod Names
 pub mod Reach
+pub mod SetTypes
 pub mod Shape
 pub mod Tree
+pub mod WellTyped
 pub mod Worked
 pub mod WorkedChecks

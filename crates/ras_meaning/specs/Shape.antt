@@ -304,7 +304,8 @@ abbrev mutual
   form_shape domains span kind (choice arms other) = do
     xs ← pair_shapes domains arms
     x ← shape_of domains other
-    common_shape span (xs ++ x ∷ [])
+    common ← common_shape span (xs ++ x ∷ [])
+    sized span (width_of_kind kind) common
   form_shape domains span kind (composite es) = do
     xs ← shapes_of domains es
     x ← common_shape span xs

@@ -1,6 +1,6 @@
 -- A small database and expressions over it, whose values are worked out by hand. The laws of worked expressions speak of
 -- them.
-use Rattle.std.specs.Prelude.{ℕ, ℤ, pos, ◌+ℤ◌, ◌*ℤ◌, List, [], ◌∷◌, map, codes}
+use Rattle.std.specs.Prelude.{ℕ, ℤ, pos, false, ◌+ℤ◌, ◌*ℤ◌, List, [], ◌∷◌, map, codes}
 use Rattle.ras_cells.specs.declared.atom.Atom.TheVariants as atoms
 use Rattle.ras_cells.specs.declared.cell.Cell.{Cell}
 use Rattle.ras_cells.specs.declared.cell.Cell.TheVariants.{Value}
@@ -16,7 +16,8 @@ use Rattle.ras_syntax.specs.declared.typed.Kind.{Kind}
 use Rattle.ras_syntax.specs.declared.typed.Kind.TheVariants as kinds
 use Rattle.ras_meaning.specs.Database.{Array}
 use Rattle.ras_meaning.specs.Eval.{Scope}
-use Rattle.ras_meaning.specs.Tree.{Tree, Form, Domain, node, number, iterator, coordinate, unary, binary, index, trim, no_axes, edge, pairs, no_pairs, bounds}
+use Rattle.ras_syntax.specs.declared.expr.FoldOp.TheVariants as folds
+use Rattle.ras_meaning.specs.Tree.{Tree, Form, Domain, node, truth, number, iterator, coordinate, unary, binary, composite, condense, index, trim, no_axes, edge, pairs, no_pairs, trees, no_trees, bounds, only_where}
 
 -- ---- arrays
 
@@ -55,6 +56,9 @@ set_type cell nulls = record {
 
 abbrev pub char : CellType
 char = types.Atom atoms.Char
+
+abbrev pub short : CellType
+short = types.Atom atoms.Short
 
 abbrev pub rgb : CellType
 rgb = types.Composite (record { items = atoms.Char ∷ atoms.Char ∷ atoms.Char ∷ [] })
@@ -108,6 +112,32 @@ trimmed l0 h0 l1 h1 = e (index a (trim (edge (n l0)) (edge (n h0)) (trim (edge (
 -- [lo:hi]
 abbrev pub from_to : ℕ → ℕ → Domain
 from_to lo hi = bounds (pairs (n lo) (n hi) no_pairs)
+
+-- a scalar that is null: the greatest of no numbers
+abbrev pub nothing : Tree
+nothing = e (condense folds.Max (codes "q") (from_to 0 0) (only_where (e (truth false))) (n 1))
+
+-- the box from 1 to k on one axis
+abbrev pub line_of : ℕ → List Interval
+line_of k = axis (pos 1) (pos k) ∷ []
+
+-- the kind of arrays whose cells are two chars, and a scalar of two components
+abbrev pub pair_of_chars : ℕ → Kind
+pair_of_chars axes = kinds.Array (types.Composite (record { items = atoms.Char ∷ atoms.Char ∷ [] })) axes
+
+abbrev pub rgb_line : Kind
+rgb_line = kinds.Array rgb 1
+
+abbrev pub one_and_two : Tree
+one_and_two = e (composite (trees (n 1) (trees (n 2) no_trees)))
+
+-- the points [i,j] with i and j between these
+abbrev pub box_of_points : ℕ → ℕ → ℕ → ℕ → List Interval
+box_of_points l0 h0 l1 h1 = axis (pos l0) (pos h0) ∷ axis (pos l1) (pos h1) ∷ []
+
+-- the box of the variable p
+abbrev pub with_p : List Interval → List (List ℕ × List Interval)
+with_p box = (codes "p", box) ∷ []
 
 -- ---- answers
 

@@ -12,6 +12,7 @@ use Rattle.ras_syntax.specs.declared.expr.ExprForm.{ExprForm}
 use Rattle.ras_syntax.specs.declared.expr.ExprForm.TheVariants as form
 use Rattle.ras_syntax.specs.declared.expr.Axis.{Axis}
 use Rattle.ras_syntax.specs.declared.expr.Axis.TheVariants as axis
+use Rattle.ras_syntax.specs.declared.expr.Part.TheVariants as part
 use Rattle.ras_syntax.specs.declared.statement.SourceName.{SourceName}
 use Rattle.ras_syntax.specs.declared.statement.StatementForm.{StatementForm}
 use Rattle.ras_syntax.specs.declared.faults.CheckFault.{CheckFault}
@@ -124,8 +125,11 @@ grey_set = set_type (codes "GreySet") (cells.Atom atoms.Char) [] (any_bound ∷ 
 abbrev pub nil_set : SetType
 nil_set = set_type (codes "NilSet") (cells.Atom atoms.Char) [] (any_bound ∷ [])
 
+abbrev pub rgb_names : List (List ℕ)
+rgb_names = codes "red" ∷ codes "green" ∷ codes "blue" ∷ []
+
 abbrev pub rgb_set : SetType
-rgb_set = set_type (codes "RgbSet") rgb_cell (codes "red" ∷ codes "green" ∷ codes "blue" ∷ []) (any_bound ∷ [])
+rgb_set = set_type (codes "RgbSet") rgb_cell rgb_names (any_bound ∷ [])
 
 abbrev pub catalog : Catalog
 catalog = record { types = grey_set ∷ nil_set ∷ rgb_set ∷ []; collections = (G_, 0) ∷ (N_, 1) ∷ (R_, 2) ∷ [] }
@@ -145,9 +149,17 @@ from_G = record { collection = G_; iterator = a_; of = grey_set }
 abbrev pub from_N : CheckedSource
 from_N = record { collection = N_; iterator = a_; of = nil_set }
 
+abbrev pub from_N_as_b : CheckedSource
+from_N_as_b = record { collection = N_; iterator = b_; of = nil_set }
+
 abbrev pub from_R : CheckedSource
 from_R = record { collection = R_; iterator = a_; of = rgb_set }
 
 -- 0:0 of which the first digit stands here
 abbrev pub zero_to_zero : ℕ → Expr × Expr
 zero_to_zero from = (number from (ℕ.suc from) 0, number (ℕ.suc (ℕ.suc from)) (ℕ.suc (ℕ.suc (ℕ.suc from))) 0)
+
+-- sdom(a)[0] with the name of a bound, as a text has it from its byte 7 on
+abbrev pub bound_of_a : List ℕ → TypedExpr
+bound_of_a bound =
+    t 7 20 wide (typed.Part (t 7 17 (kind.Domain 1) (typed.Index (t 7 14 (kind.Domain 2) (typed.Sdom (t 12 13 (char_array 2) (typed.Iterator a_ 0)))) (taxis.At (tnumber 15 16 0) ∷ []))) (part.Named bound))

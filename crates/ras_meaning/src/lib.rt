@@ -4,4 +4,6 @@
 #![tactic(auto)]
 
 pub mod check_laws;
+pub mod kind_tables;
 pub mod laws;
+pub mod reach_tables;

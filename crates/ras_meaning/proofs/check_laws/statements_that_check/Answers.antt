@@ -16,3 +16,15 @@ returns-clause-inserted c = simp form_equations refl
 
 pub returns-clause-updated : goal.returns-clause-updated
 returns-clause-updated c = simp form_equations refl
+
+pub returns-clause-one_cell : goal.returns-clause-one_cell
+returns-clause-one_cell c = simp form_equations refl
+
+pub returns-clause-second_source : goal.returns-clause-second_source
+returns-clause-second_source c = simp form_equations refl
+
+pub returns-clause-numbered_component : goal.returns-clause-numbered_component
+returns-clause-numbered_component c = simp form_equations refl
+
+pub returns-clause-position_in_a_target : goal.returns-clause-position_in_a_target
+returns-clause-position_in_a_target c = simp form_equations refl
