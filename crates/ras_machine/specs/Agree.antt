@@ -1,5 +1,5 @@
 -- What a lock shows of a database, and when two databases agree on a list of locks.
-use Rattle.std.specs.Prelude.{◌≡◌, ℕ, ℤ, List, [], filter, slice_get, Option, Some, None, Contains}
+use Rattle.std.specs.Prelude.{◌≡◌, ℕ, ◌==◌, ℤ, Bool, ◌&&◌, List, [], length, filter, slice_get, Option, Some, None, Contains}
 use Rattle.std.specs.Option.{option_map}
 use Rattle.std.specs.Map.{keys_of}
 use Rattle.ras_domain.specs.declared.lock.LockName.{LockName}
@@ -23,11 +23,15 @@ abbrev pub extents_in : Option SetType → List ℕ
 extents_in None = []
 extents_in (Some of) = of.extents.items
 
+-- the point lies in the grid box at a place; at a place with another number of coordinates than the extents there is none
+abbrev pub lies_at : List ℕ → List ℤ → List ℤ → Bool
+lies_at extents place p = (length place == length extents) && is_in p (grid_box extents place)
+
 -- what is stored in the grid box at a place
 abbrev pub stored_in_tile : List SetType → CollectionOf → List ℤ → Array → Seen
 stored_in_tile types collection place array =
     tile_seen collection.set_type
-    (filter (λ entry. is_in entry.0 (grid_box (extents_in (slice_get types collection.set_type)) place)) array.stored)
+    (filter (λ entry. lies_at (extents_in (slice_get types collection.set_type)) place entry.0) array.stored)
 
 abbrev pub with_array : (CollectionOf → Array → Seen) → ℕ → Option CollectionOf → Option Seen
 with_array show id None = None

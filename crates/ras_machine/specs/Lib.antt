@@ -1,8 +1,10 @@
 pub mod Agree
 pub mod Answer
 pub mod Locks
+pub mod LongLists
 pub mod Machine
 pub mod ReachLaw
+pub mod Replies
 pub mod Rows
 pub mod Statement
 pub mod Validity

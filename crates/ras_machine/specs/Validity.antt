@@ -1,5 +1,5 @@
 -- Databases that are valid for a list of types.
-use Rattle.std.specs.Prelude.{◌≡◌, ◌*◌, ◌<◌, ◌≤◌, List, map, length, slice_get, Some, All, IsTrue}
+use Rattle.std.specs.Prelude.{◌≡◌, ℕ, ◌*◌, ◌<◌, ◌≤◌, List, map, length, slice_get, Some, All, IsTrue}
 use Rattle.std.specs.List.Sorted.{IsStrictlySortedBy}
 use Rattle.std.specs.Map.{keys_of}
 use Rattle.std.specs.Ordering.{nat_cmp}
@@ -35,3 +35,11 @@ pub record IsCollectionOver (types : List SetType) (collection : Collection) : T
 pub record IsValidFor (types : List SetType) (database : Database) : Type 0 where
   pub ordered : IsStrictlySortedBy (slice_cmp nat_cmp) (keys_of database)
   pub collections : All (λ entry. IsCollectionOver types entry.1) database
+
+-- no collection gives out an identifier beyond a bound next, so each one given out before is less
+abbrev pub HasIdentifiersUpTo : ℕ → Database → Type 0
+HasIdentifiersUpTo bound database = All (λ entry. entry.1.next ≤ bound) database
+
+-- identifiers are numbers of 64 bits
+abbrev pub HasSmallIdentifiers : Database → Type 0
+HasSmallIdentifiers = HasIdentifiersUpTo 9223372036854775807

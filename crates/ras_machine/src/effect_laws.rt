@@ -1,13 +1,17 @@
 //! Laws of answers, effects and agreement. Each is the contract of a function that does nothing.
-ghost use Rattle.std.specs.Prelude.{◌≡◌, ◌⊎◌, List, ℕ, Contains, Ok, Err};
+ghost use Rattle.std.specs.Prelude.{◌≡◌, ◌⊎◌, ◌<◌, List, ℕ, length, Contains, Ok, Err};
 ghost use Rattle.ras_domain.specs.declared.lock.LockName.{LockName};
 ghost use Rattle.ras_domain.specs.declared.lock.Mode.{Mode};
 ghost use Rattle.ras_syntax.specs.declared.types.SetType.{SetType};
 ghost use Rattle.ras_syntax.specs.declared.typed.CheckedSource.{CheckedSource};
 ghost use Rattle.ras_machine.specs.Agree.{Agrees};
-ghost use Rattle.ras_machine.specs.Answer.{IsAnswered, answer_of, effect_of};
+ghost use Rattle.ras_machine.specs.Answer.{IsAnswered, Plan, answer_of, effect_of, phase_2_list, phase_3_list, phase_4_list, until_condition, until_plans, until_rows};
 ghost use Rattle.ras_meaning.specs.Database.{Database};
 ghost use Rattle.ras_machine.specs.Locks.{Lock};
+ghost use Rattle.ras_machine.specs.LongLists.{IsRefusedAtFirst, IsRefusedFrom};
+ghost use Rattle.ras_machine.specs.Machine.{first_list};
+ghost use Rattle.ras_syntax.specs.declared.statement.Statement.{Statement};
+ghost use Rattle.ras_machine.specs.Rows.{Row};
 ghost use Rattle.ras_machine.specs.Statement.{StatementTree, select};
 ghost use Rattle.ras_meaning.specs.Tree.{Tree, Condition};
 
@@ -21,6 +25,22 @@ pub fn faults_have_no_effect()
 pub fn selects_have_no_effect()
     ensures { (body : Tree) (sources : List CheckedSource) (condition : Condition) (length : ℕ) (database : Database)
         → effect_of (record { request = select body sources condition; length = length }) database ≡ database }
+{}
+
+/// A list of more than 2^20 locks is refused before it is asked for, and nothing is asked for after
+/// it.
+pub fn long_lists_are_refused()
+    ensures first { (types : List SetType) (statement : Statement) (database : Database)
+        → 1048576 < length (first_list statement) → IsRefusedAtFirst types statement database }
+    ensures second { (statement : StatementTree) (database : Database) (rows : List (ℕ × Row))
+        → until_rows statement database ≡ Ok rows → 1048576 < length (phase_2_list statement rows)
+        → IsRefusedFrom 2 statement database }
+    ensures third { (statement : StatementTree) (database : Database) (rows : List (ℕ × Row))
+        → until_condition statement database ≡ Ok rows → 1048576 < length (phase_3_list statement rows)
+        → IsRefusedFrom 3 statement database }
+    ensures fourth { (statement : StatementTree) (database : Database) (plans : List Plan)
+        → until_plans statement database ≡ Ok plans → 1048576 < length (phase_4_list statement plans)
+        → IsRefusedFrom 4 statement database }
 {}
 
 /// Agreement on a list is an equivalence, and it is kept by a list of fewer locks.
