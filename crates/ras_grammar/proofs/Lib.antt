@@ -1,5 +1,9 @@
+pub mod Balance
 pub mod Depth
+pub mod Levels
+pub mod Misplaced
 pub mod Nesting
+pub mod Numbers
 pub mod Order
 pub mod Readings
 pub mod Refusals
