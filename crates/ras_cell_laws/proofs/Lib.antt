@@ -1,0 +1,11 @@
+pub mod ArrayForms
+pub mod Bounds
+pub mod CellKinds
+pub mod Components
+pub mod Folds
+pub mod Forms
+pub mod Intervals
+pub mod Leaves
+pub mod Products
+pub mod Scopes
+pub mod Types
