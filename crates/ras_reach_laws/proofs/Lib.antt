@@ -1,0 +1,12 @@
+pub mod AllCells
+pub mod Fitting
+pub mod Index
+pub mod Moved
+pub mod Moves
+pub mod Outcomes
+pub mod Positions
+pub mod Reach
+pub mod Scalars
+pub mod Settings
+pub mod Simple
+pub mod Variables
