@@ -1,0 +1,9 @@
+pub mod Induction
+pub mod Parts
+pub mod Forms
+pub mod Domains
+pub mod Views
+pub mod Indexes
+pub mod Expressions
+pub mod Sources
+pub mod Statements

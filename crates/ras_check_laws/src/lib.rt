@@ -1,0 +1,4 @@
+//! Laws of the check: what it gives is well typed.
+#![tactic(auto)]
+
+pub mod laws;
