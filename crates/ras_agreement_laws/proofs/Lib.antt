@@ -1,0 +1,14 @@
+pub mod Answers
+pub mod Collections
+pub mod Effects
+pub mod EffectsChanges
+pub mod EffectsMaps
+pub mod EffectsShown
+pub mod Known
+pub mod Lists
+pub mod Made
+pub mod Pairs
+pub mod Planned
+pub mod Reading
+pub mod Sides
+pub mod Steps
