@@ -31,7 +31,8 @@ made-negsuc : (n k : ℕ) → made_of_bits (negsuc n) k ≡ pos (2 ^ k - 1 - n %
 unfolding made_of_bits
 made-negsuc n zero = ap pos (omega arith)
 made-negsuc n (suc k) =
-    rw (made-negsuc n k) (ap pos (flipped (2 ^ k) (n / 2 ^ k) (n % 2 ^ k) (n % 2 ^ suc k) (2 ^ suc k) (mod_below n (2 ^ k) (pow_pos k)) (sym (ap (λ j. n % 2 ^ j) (one-add k)) ∙ mod-pow-add n 1 k) (pow-succ' 2 k)))
+    rw (made-negsuc n k) (ap pos (flipped (2 ^ k) (n / 2 ^ k) (n % 2 ^ k) (n % 2 ^ suc k) (2 ^ suc k) (mod_below n (2 ^ k) (pow_pos k))
+    (sym (ap (λ j. n % 2 ^ j) (one-add k)) ∙ mod-pow-add n 1 k) (pow-succ' 2 k)))
 
 pub made_of_bits-whole : (x : ℤ) → IsInRange Wide x → made_of_bits x 63 -ℤ (bit_of x 63 *ℤ pos (2 ^ 63)) ≡ x
 made_of_bits-whole (pos n) h =

@@ -14,10 +14,21 @@ none_below n (suc k) h = absurd (omega arith)
 mul-sub : (y q p : ℤ) → y *ℤ (q -ℤ p) ≡ (y *ℤ q) -ℤ (y *ℤ p)
 mul-sub y q p =
     let e : up (q -ℤ p) + down q + up p ≡ down (q -ℤ p) + up q + down p = omega (arith, sum_is_lem q (neg_ℤ p), neg_is p) in
-    same_in (y *ℤ (q -ℤ p)) ((y *ℤ q) -ℤ (y *ℤ p)) (omega (arith, product_is y (q -ℤ p), product_is y q, product_is y p, neg_is (y *ℤ p), sum_is_lem (y *ℤ q) (neg_ℤ (y *ℤ p)), ap (λ n. up y * n) e, ap (λ n. down y * n) e))
+    same_in (y *ℤ (q -ℤ p)) ((y *ℤ q) -ℤ (y *ℤ p)) (omega (
+      arith,
+      product_is y (q -ℤ p),
+      product_is y q,
+      product_is y p,
+      neg_is (y *ℤ p),
+      sum_is_lem (y *ℤ q)
+          (neg_ℤ (y *ℤ p)),
+      ap (λ n. up y * n) e,
+      ap (λ n. down y * n) e,
+    ))
 
 -- two remainders are closer to each other than the divisor is large
-close : (x r s : ℤ) (n : ℕ) → (pos 0 ≤ℤ x → pos 0 ≤ℤ r) → (x ≤ℤ pos 0 → r ≤ℤ pos 0) → (pos 0 ≤ℤ x → pos 0 ≤ℤ s) → (x ≤ℤ pos 0 → s ≤ℤ pos 0) → unsigned_abs r < n → unsigned_abs s < n → unsigned_abs (s -ℤ r) < n
+close : (x r s : ℤ) (n : ℕ) → (pos 0 ≤ℤ x → pos 0 ≤ℤ r) → (x ≤ℤ pos 0 → r ≤ℤ pos 0) → (pos 0 ≤ℤ x → pos 0 ≤ℤ s) → (x ≤ℤ pos 0 → s ≤ℤ pos 0) → unsigned_abs r < n
+    → unsigned_abs s < n → unsigned_abs (s -ℤ r) < n
 close (pos x) r s n a b c d e f =
     let h : pos 0 ≤ℤ pos x = omega (arith, ints) in
     omega (arith, ints, a h, c h)

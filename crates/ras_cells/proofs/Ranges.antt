@@ -1,5 +1,5 @@
 -- Ranges of atoms.
-use Rattle.std.proofs.Common.{◌≡◌, suc, Bool, ℤ, pos, negsuc, ◌≤ℤ◌, List, [], ◌∷◌, length, refl, ap, arith, ◌&&◌, true, false, IsTrue, ◌↔◌}
+use Rattle.std.proofs.Common.{◌≡◌, ◌^◌, ◌-◌, suc, Bool, ℤ, pos, negsuc, ◌≤ℤ◌, List, [], ◌∷◌, length, refl, ap, arith, ◌&&◌, true, false, IsTrue, ◌↔◌}
 use Rattle.std.specs.Prelude.{int_le}
 use Rattle.std.specs.List.{list_all, zip}
 use Rattle.std.proofs.lemmas.Int.{ints}
@@ -34,7 +34,7 @@ AreInRange-are_in_range (atom ∷ atoms) (z ∷ zs) =
     both (is_in_range atom z) (are_in_range atoms zs) (IsInRange-is_in_range atom z) (AreInRange-are_in_range atoms zs)
 
 -- each range lies in that of 64 bits
-within : (least greatest z : ℤ) → negsuc 9223372036854775807 ≤ℤ least → greatest ≤ℤ pos 9223372036854775807 → (least ≤ℤ z) × (z ≤ℤ greatest) → IsInRange atoms.Wide z
+within : (least greatest z : ℤ) → negsuc (2 ^ 63 - 1) ≤ℤ least → greatest ≤ℤ pos (2 ^ 63 - 1) → (least ≤ℤ z) × (z ≤ℤ greatest) → IsInRange atoms.Wide z
 within least greatest z low high h = (omega (arith, ints, h.0), omega (arith, ints, h.1))
 
 pub IsInRange-Wide : (atom : Atom) (z : ℤ) → IsInRange atom z → IsInRange atoms.Wide z

@@ -14,8 +14,8 @@ use Rattle.ras_cells.specs.declared.cell.CellFault.TheVariants.{Overflow, Divide
 use Rattle.ras_cells.specs.declared.numbers.Op2.{Op2}
 use Rattle.ras_cells.specs.declared.numbers.Op2.TheVariants.{Add, Sub, Mul, Div, Mod, Eq, Ne, Lt, Le, Gt, Ge, And, Or, Xor, Bit, Overlay}
 use Rattle.ras_cells.specs.Atoms.{IsInRange, is_in_range, AreInRange}
-use Rattle.ras_cells.specs.Numbers.{wide, truth, is_zero, is_true, bit_of, quotient, remainder, bit, of_numbers, cast_number}
-use Rattle.ras_cells.specs.Cells.{single, only, on_number, on_numbers, overlaid, applied2, cast_to}
+use Rattle.ras_cells.specs.Numbers.{as_wide, truth_number, is_zero, is_true, bit_of, quotient, remainder, bit, of_numbers, cast_number}
+use Rattle.ras_cells.specs.Cells.{single, only, on_number, on_numbers, overlay_of, applied2, cast_to}
 use Rattle.ras_cells.specs.Outcomes.{◌>>=◌}
 use Rattle.std.specs.List.{list_all}
 use Rattle.ras_cells.specs.Laws.{IsCellOf, IsOfAtom, result2_of, MayGive2}
@@ -35,12 +35,12 @@ in_range-cast atom x z is =
     let k = kept (is_in_range atom x) x z CastRange is in
     let P : ℤ → Type 0 = IsInRange atom in subst P k.1 ((IsInRange-is_in_range atom x).0 k.0)
 
-in_range-wide : (x z : ℤ) → wide x ≡ Ok z → IsInRange atoms.Wide z
+in_range-wide : (x z : ℤ) → as_wide x ≡ Ok z → IsInRange atoms.Wide z
 in_range-wide x z is =
     let k = kept (is_in_range atoms.Wide x) x z Overflow is in
     let P : ℤ → Type 0 = IsInRange atoms.Wide in subst P k.1 ((IsInRange-is_in_range atoms.Wide x).0 k.0)
 
-in_range-truth : (b : Bool) (z : ℤ) → truth b ≡ Ok z → IsInRange atoms.Bool z
+in_range-truth : (b : Bool) (z : ℤ) → truth_number b ≡ Ok z → IsInRange atoms.Bool z
 in_range-truth true z is =
     let e : pos 1 ≡ z = cc in
     let P : ℤ → Type 0 = IsInRange atoms.Bool in subst P e (omega (arith, ints), omega (arith, ints))
@@ -58,7 +58,7 @@ otherwise true r z fault is next = absurd cc
 otherwise false r z fault is next = next refl is
 
 in_range-quotient : (x y z : ℤ) → quotient x y ≡ Ok z → IsInRange atoms.Wide z
-in_range-quotient x y z is = otherwise (is_zero y) (wide (int_div x y)) z DivideByZero is (λ _. in_range-wide (int_div x y) z)
+in_range-quotient x y z is = otherwise (is_zero y) (as_wide (int_div x y)) z DivideByZero is (λ _. in_range-wide (int_div x y) z)
 
 not_zero : (y : ℤ) → is_zero y ≡ false → 0 < unsigned_abs y
 not_zero (pos zero) h = absurd cc
@@ -68,7 +68,8 @@ not_zero (negsuc n) h = omega arith
 in_range-remainder : (x y z : ℤ) → IsInRange atoms.Wide y → remainder x y ≡ Ok z → IsInRange atoms.Wide z
 in_range-remainder x y z h is =
     otherwise (is_zero y) (Ok (int_rem x y)) z DivideByZero is
-    (λ some e. let same : int_rem x y ≡ z = cc in let P : ℤ → Type 0 = IsInRange atoms.Wide in subst P same (in_range-small (int_rem x y) (omega (arith, ints, h.0, h.1, rem_below x y (not_zero y some)))))
+    (λ some e. let same : int_rem x y ≡ z = cc in let P : ℤ → Type 0 = IsInRange atoms.Wide in subst P same
+    (in_range-small (int_rem x y) (omega (arith, ints, h.0, h.1, rem_below x y (not_zero y some)))))
 
 in_range-parity : (d : ℤ) → IsInRange atoms.Bool (int_rem_euclid d (pos 2))
 in_range-parity (pos n) = (omega (arith, ints), omega (arith, ints))
@@ -111,7 +112,7 @@ MayGive2-of_numbers Add x y fault is = given (is_in_range atoms.Wide (x +ℤ y))
 MayGive2-of_numbers Sub x y fault is = given (is_in_range atoms.Wide (x -ℤ y)) (x -ℤ y) Overflow fault is
 MayGive2-of_numbers Mul x y fault is = given (is_in_range atoms.Wide (x *ℤ y)) (x *ℤ y) Overflow fault is
 MayGive2-of_numbers Div x y fault is =
-    elim (either (is_zero y) (wide (int_div x y)) DivideByZero fault is) [
+    elim (either (is_zero y) (as_wide (int_div x y)) DivideByZero fault is) [
       | inl zero_divisor ↦ inl zero_divisor
       | inr too_large ↦ inr (given (is_in_range atoms.Wide (int_div x y)) (int_div x y) Overflow fault too_large)
     ]
@@ -141,7 +142,7 @@ lifted_fault (Ok z) fault is = absurd cc
 lifted_fault (Err other) fault is = cc
 
 -- the one number of a cell of an atom is in the atom's range
-in_range-only : (atom : Atom) (zs : List ℤ) → AreInRange (atom ∷ []) zs → IsInRange atom (only zs)
+pub in_range-only : (atom : Atom) (zs : List ℤ) → AreInRange (atom ∷ []) zs → IsInRange atom (only zs)
 in_range-only atom [] h = absurd h
 in_range-only atom (z ∷ zs) h = h.0
 
@@ -157,7 +158,8 @@ IsOfAtom-on_number f atom (Value a) c each is =
     let l = lifted (f (only a.items)) c is in
     IsOfAtom-single atom l.0 c l.2 (each (only a.items) l.0 l.1)
 
-IsOfAtom-on_numbers : (f : ℤ → ℤ → Result ℤ CellFault) (from to : Atom) (a b c : Cell) → ((x y z : ℤ) → IsInRange from x → IsInRange from y → f x y ≡ Ok z → IsInRange to z) → IsOfAtom from a → IsOfAtom from b → on_numbers f a b ≡ Ok c → IsOfAtom to c
+IsOfAtom-on_numbers : (f : ℤ → ℤ → Result ℤ CellFault) (from to : Atom) (a b c : Cell)
+    → ((x y z : ℤ) → IsInRange from x → IsInRange from y → f x y ≡ Ok z → IsInRange to z) → IsOfAtom from a → IsOfAtom from b → on_numbers f a b ≡ Ok c → IsOfAtom to c
 IsOfAtom-on_numbers f from to Null b c each g h is = IsOfAtom-null to c is
 IsOfAtom-on_numbers f from to (Value a) Null c each g h is = IsOfAtom-null to c is
 IsOfAtom-on_numbers f from to (Value a) (Value b) c each g h is =
@@ -167,7 +169,8 @@ IsOfAtom-on_numbers f from to (Value a) (Value b) c each g h is =
 pub IsOfAtom-cast_to : (atom : Atom) (a c : Cell) → cast_to atom a ≡ Ok c → IsOfAtom atom c
 IsOfAtom-cast_to atom a c is = IsOfAtom-on_number (cast_number atom) atom a c (in_range-cast atom) is
 
-fault-on_numbers : (f : ℤ → ℤ → Result ℤ CellFault) (P : CellFault → Type 0) (a b : Cell) (fault : CellFault) → ((x y : ℤ) → f x y ≡ Err fault → P fault) → on_numbers f a b ≡ Err fault → P fault
+fault-on_numbers : (f : ℤ → ℤ → Result ℤ CellFault) (P : CellFault → Type 0) (a b : Cell) (fault : CellFault) → ((x y : ℤ) → f x y ≡ Err fault → P fault)
+    → on_numbers f a b ≡ Err fault → P fault
 fault-on_numbers f P Null b fault each is = absurd cc
 fault-on_numbers f P (Value a) Null fault each is = absurd cc
 fault-on_numbers f P (Value a) (Value b) fault each is =
@@ -177,7 +180,7 @@ lower_or_upper : (atoms : List Atom) (t : Bool) (a b : Cell) → IsCellOf atoms 
 lower_or_upper atoms true a b g h = g
 lower_or_upper atoms false a b g h = h
 
-pub IsCellOf-overlaid : (atoms : List Atom) (a b : Cell) → IsCellOf atoms a → IsCellOf atoms b → IsCellOf atoms (overlaid a b)
+pub IsCellOf-overlaid : (atoms : List Atom) (a b : Cell) → IsCellOf atoms a → IsCellOf atoms b → IsCellOf atoms (overlay_of a b)
 IsCellOf-overlaid atoms a Null g h = g
 IsCellOf-overlaid atoms a (Value b) g h = lower_or_upper atoms (list_all is_zero b.items) a (Value b) g h
 
@@ -198,7 +201,7 @@ IsOfAtom-applied2 Or atom a b c g h is = IsOfAtom-on_numbers (of_numbers Or) ato
 IsOfAtom-applied2 Xor atom a b c g h is = IsOfAtom-on_numbers (of_numbers Xor) atom (result2_of Xor atom) a b c (in_range-of_numbers Xor atom) g h is
 IsOfAtom-applied2 Bit atom a b c g h is = IsOfAtom-on_numbers (of_numbers Bit) atom (result2_of Bit atom) a b c (in_range-of_numbers Bit atom) g h is
 IsOfAtom-applied2 Overlay atom a b c g h is =
-    let P : Cell → Type 0 = IsOfAtom atom in let e : overlaid a b ≡ c = cc in subst P e (IsCellOf-overlaid (atom ∷ []) a b g h)
+    let P : Cell → Type 0 = IsOfAtom atom in let e : overlay_of a b ≡ c = cc in subst P e (IsCellOf-overlaid (atom ∷ []) a b g h)
 
 pub MayGive2-applied2 : (op : Op2) (a b : Cell) (fault : CellFault) → applied2 op a b ≡ Err fault → MayGive2 op fault
 MayGive2-applied2 Add a b fault is = fault-on_numbers (of_numbers Add) (MayGive2 Add) a b fault (λ x y. MayGive2-of_numbers Add x y fault) is

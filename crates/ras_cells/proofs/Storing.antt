@@ -57,7 +57,8 @@ null_in_range (types.Atom atom) (ends ∷ others) numbers h is =
     let P : Numbers → Type 0 = λ n. AreInRange (atom ∷ []) n.items in subst P e (first_in_range atom ends others h, tt)
 null_in_range (types.Composite atoms) (ends ∷ others) numbers h is = absurd cc
 
-pub AreInRange-stored_of : (a : Cell) (of : CellType) (nulls : NullSet) (numbers : Numbers) → IsNullSetOf of nulls.items → stored_of a of nulls ≡ Ok numbers → AreInRange (atoms_of of) numbers.items
+pub AreInRange-stored_of : (a : Cell) (of : CellType) (nulls : NullSet) (numbers : Numbers) → IsNullSetOf of nulls.items → stored_of a of nulls ≡ Ok numbers
+    → AreInRange (atoms_of of) numbers.items
 AreInRange-stored_of Null of nulls numbers h is = null_in_range of nulls.items numbers h is
 AreInRange-stored_of (Value cell) of nulls numbers h is =
     let k = kept (are_in_range (atoms_of of) cell.items) cell numbers CastRange is in
@@ -78,7 +79,8 @@ never : (b : Bool) → (b && false) ≡ false
 never true = refl
 never false = refl
 
-default_is_stored : (of : CellType) (nulls : List (ℤ × ℤ)) → IsNullSetOf of nulls → let set : NullSet = record { items = nulls } in stored_of (read_of (default_of of set) set) of set ≡ Ok (default_of of set)
+default_is_stored : (of : CellType) (nulls : List (ℤ × ℤ)) → IsNullSetOf of nulls
+    → let set : NullSet = record { items = nulls } in stored_of (read_of (default_of of set) set) of set ≡ Ok (default_of of set)
 default_is_stored (types.Atom atom) [] h =
     rw ((AreInRange-are_in_range (atom ∷ []) (pos 0 ∷ [])).1 (zero_in_range atom, tt)) refl
 default_is_stored (types.Atom atom) (ends ∷ others) h = rw (first_is_null atom ends others h) refl

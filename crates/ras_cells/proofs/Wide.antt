@@ -7,7 +7,7 @@ use Rattle.std.proofs.lemmas.Int.{ints}
 use Rattle.ras_cells.specs.declared.atom.Atom.TheVariants.{Wide}
 use Rattle.ras_cells.specs.declared.cell.CellFault.TheVariants.{Overflow}
 use Rattle.ras_cells.specs.Atoms.{is_in_range}
-use Rattle.ras_cells.specs.Numbers.{wide}
+use Rattle.ras_cells.specs.Numbers.{as_wide}
 
 fits_true : (z : ℤ) → FitsSigned w64 z → is_in_range Wide z ≡ true
 fits_true z h = grind (arith, ints)
@@ -15,6 +15,6 @@ fits_true z h = grind (arith, ints)
 fits_false : (z : ℤ) → ¬ FitsSigned w64 z → is_in_range Wide z ≡ false
 fits_false z h = grind (arith, ints)
 
-pub wide_is : (z : ℤ) (r : Option ℤ) → SomeIff r (FitsSigned w64 z) z → ok_or r Overflow ≡ wide z
+pub wide_is : (z : ℤ) (r : Option ℤ) → SomeIff r (FitsSigned w64 z) z → ok_or r Overflow ≡ as_wide z
 wide_is z None h = rw (fits_false z h) refl
 wide_is z (Some y) h = rw (fits_true z h.0, h.1) refl

@@ -1,5 +1,5 @@
 -- The ranges of the atoms, in one table.
-use Rattle.std.specs.Prelude.{ℤ, pos, negsuc, ◌≤ℤ◌, int_le, ◌&&◌, Bool as Truth, List, [], ◌∷◌, true, false}
+use Rattle.std.specs.Prelude.{◌^◌, ◌-◌, ℤ, pos, negsuc, ◌≤ℤ◌, int_le, ◌&&◌, Bool as Truth, List, [], ◌∷◌, true, false}
 use Rattle.ras_cells.specs.declared.atom.Atom.{Atom}
 use Rattle.ras_cells.specs.declared.atom.Atom.TheVariants.{Bool, Octet, Char, Short, Ushort, Long, Ulong, Wide}
 
@@ -12,7 +12,7 @@ range_of Short = (negsuc 32767, pos 32767)
 range_of Ushort = (pos 0, pos 65535)
 range_of Long = (negsuc 2147483647, pos 2147483647)
 range_of Ulong = (pos 0, pos 4294967295)
-range_of Wide = (negsuc 9223372036854775807, pos 9223372036854775807)
+range_of Wide = (negsuc (2 ^ 63 - 1), pos (2 ^ 63 - 1))
 
 -- the number lies in the range of the atom
 abbrev pub IsInRange : Atom → ℤ → Type 0

@@ -46,15 +46,15 @@ on_numbers f (Value a) (Value b) = do
   Ok (single z)
 
 -- b where it is neither null nor all zeros, else a
-abbrev pub overlaid : Cell → Cell → Cell
-overlaid a Null = a
-overlaid a (Value b) = if list_all is_zero b.items then a else Value b
+abbrev pub overlay_of : Cell → Cell → Cell
+overlay_of a Null = a
+overlay_of a (Value b) = if list_all is_zero b.items then a else Value b
 
 abbrev pub applied1 : Op1 → Cell → Result Cell CellFault
 applied1 op a = on_number (of_number op) a
 
 abbrev pub applied2 : Op2 → Cell → Cell → Result Cell CellFault
-applied2 Overlay a b = Ok (overlaid a b)
+applied2 Overlay a b = Ok (overlay_of a b)
 applied2 op a b = on_numbers (of_numbers op) a b
 
 abbrev pub cast_to : Atom → Cell → Result Cell CellFault

@@ -14,12 +14,12 @@ use Rattle.ras_cells.specs.declared.numbers.Op2.TheVariants.{Add, Sub, Mul, Div,
 use Rattle.ras_cells.specs.Atoms.{is_in_range}
 
 -- the exact number, where it is one of 64 bits
-abbrev pub wide : ℤ → Result ℤ CellFault
-wide z = if is_in_range Wide z then Ok z else Err Overflow
+abbrev pub as_wide : ℤ → Result ℤ CellFault
+as_wide z = if is_in_range Wide z then Ok z else Err Overflow
 
 -- the number of a truth value, and back
-abbrev pub truth : Bool → Result ℤ CellFault
-truth b = Ok (pos (from_bool b))
+abbrev pub truth_number : Bool → Result ℤ CellFault
+truth_number b = Ok (pos (from_bool b))
 
 abbrev pub is_zero : ℤ → Bool
 is_zero z = int_eq z (pos 0)
@@ -29,7 +29,7 @@ is_true z = not (is_zero z)
 
 -- the exact quotient, truncated towards 0
 abbrev pub quotient : ℤ → ℤ → Result ℤ CellFault
-quotient x y = if is_zero y then Err DivideByZero else wide (int_div x y)
+quotient x y = if is_zero y then Err DivideByZero else as_wide (int_div x y)
 
 -- what that quotient leaves of x; it has x's sign
 abbrev pub remainder : ℤ → ℤ → Result ℤ CellFault
@@ -44,25 +44,25 @@ abbrev pub bit : ℤ → ℤ → Result ℤ CellFault
 bit x i = if int_le (pos 0) i && int_lt i (pos 64) then Ok (bit_of x (unsigned_abs i)) else Err IndexOut
 
 abbrev pub of_number : Op1 → ℤ → Result ℤ CellFault
-of_number Neg x = wide (neg_ℤ x)
-of_number Abs x = wide (pos (unsigned_abs x))
-of_number Not x = truth (not (is_true x))
+of_number Neg x = as_wide (neg_ℤ x)
+of_number Abs x = as_wide (pos (unsigned_abs x))
+of_number Not x = truth_number (not (is_true x))
 
 abbrev pub of_numbers : Op2 → ℤ → ℤ → Result ℤ CellFault
-of_numbers Add x y = wide (x +ℤ y)
-of_numbers Sub x y = wide (x -ℤ y)
-of_numbers Mul x y = wide (x *ℤ y)
+of_numbers Add x y = as_wide (x +ℤ y)
+of_numbers Sub x y = as_wide (x -ℤ y)
+of_numbers Mul x y = as_wide (x *ℤ y)
 of_numbers Div x y = quotient x y
 of_numbers Mod x y = remainder x y
-of_numbers Eq x y = truth (int_eq x y)
-of_numbers Ne x y = truth (not (int_eq x y))
-of_numbers Lt x y = truth (int_lt x y)
-of_numbers Le x y = truth (int_le x y)
-of_numbers Gt x y = truth (int_lt y x)
-of_numbers Ge x y = truth (int_le y x)
-of_numbers And x y = truth (is_true x && is_true y)
-of_numbers Or x y = truth (is_true x || is_true y)
-of_numbers Xor x y = truth (not (beq (is_true x) (is_true y)))
+of_numbers Eq x y = truth_number (int_eq x y)
+of_numbers Ne x y = truth_number (not (int_eq x y))
+of_numbers Lt x y = truth_number (int_lt x y)
+of_numbers Le x y = truth_number (int_le x y)
+of_numbers Gt x y = truth_number (int_lt y x)
+of_numbers Ge x y = truth_number (int_le y x)
+of_numbers And x y = truth_number (is_true x && is_true y)
+of_numbers Or x y = truth_number (is_true x || is_true y)
+of_numbers Xor x y = truth_number (not (beq (is_true x) (is_true y)))
 of_numbers Bit x i = bit x i
 of_numbers Overlay x y = Ok (if is_zero y then x else y)
 

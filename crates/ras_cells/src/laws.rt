@@ -10,7 +10,7 @@ ghost use Rattle.ras_cells.specs.declared.numbers.Op1.{Op1};
 ghost use Rattle.ras_cells.specs.declared.numbers.Op2.{Op2};
 ghost use Rattle.ras_cells.specs.Atoms.{IsInRange, is_in_range, AreInRange, are_in_range};
 ghost use Rattle.ras_cells.specs.Numbers.{bit_of};
-ghost use Rattle.ras_cells.specs.Cells.{IsSingle, applied1, applied2, cast_to, overlaid};
+ghost use Rattle.ras_cells.specs.Cells.{IsSingle, applied1, applied2, cast_to, overlay_of};
 ghost use Rattle.ras_cells.specs.Laws.{IsDivision, made_of_bits, IsCellOf, IsOfAtom, result1_of, result2_of, MayGive1, MayGive2};
 ghost use Rattle.ras_cells.specs.Stored.{Numbers, NullSet, IsNullSetOf, HasWidthOf, atoms_of, read_of, stored_of, default_of, reads_as_null};
 
@@ -41,7 +41,7 @@ pub fn results_are_in_range()
         → applied2 op a b ≡ Ok c → IsOfAtom (result2_of op atom) c }
     ensures cast { (atom : Atom) (a c : Cell) → cast_to atom a ≡ Ok c → IsOfAtom atom c }
     ensures overlay { (atoms : List Atom) (a b : Cell) → IsCellOf atoms a → IsCellOf atoms b
-        → IsCellOf atoms (overlaid a b) }
+        → IsCellOf atoms (overlay_of a b) }
 {}
 
 /// A cell of one atom is an operand of every operation, and a cell of a type is stored in it.

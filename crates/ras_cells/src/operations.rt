@@ -2,7 +2,7 @@
 ghost use Rattle.std.specs.Prelude.{◌≡◌, IfOk};
 ghost use Rattle.std.specs.List.{list_all};
 ghost use Rattle.ras_cells.specs.Numbers.{is_zero};
-ghost use Rattle.ras_cells.specs.Cells.{IsSingle, Takes, applied1, applied2, cast_to, overlaid, outcome1 as outcome1_of, outcome2 as outcome2_of, single as single_of};
+ghost use Rattle.ras_cells.specs.Cells.{IsSingle, Takes, applied1, applied2, cast_to, overlay_of, outcome1 as outcome1_of, outcome2 as outcome2_of, single as single_of};
 
 use crate::atom::Atom;
 use crate::cell::{Cell, CellFault, Numbers};
@@ -81,7 +81,7 @@ fn single(number: i64) -> Cell
 
 /// b where it is neither null nor all zeros, else a.
 fn overlay(a: &Cell, b: &Cell) -> Cell
-    ensures { result ≡ overlaid a.now b.now }
+    ensures { result ≡ overlay_of a.now b.now }
 {
     match b {
         Cell::Value(numbers) if !are_zeros(numbers.as_slice()) => copy_of(b),

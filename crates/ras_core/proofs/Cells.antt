@@ -7,7 +7,7 @@ use Rattle.std.proofs.lemmas.Int.{ints}
 use Rattle.std.proofs.lemmas.Option.{slice_get-map, get_or_from_slice_get}
 use Rattle.ras_domain.specs.declared.region.Interval.{Interval}
 use Rattle.ras_domain.specs.Region.{IsIn, points_of}
-use Rattle.ras_core.specs.First.{g_domain, cell_of, cells_of}
+use Rattle.ras_core.specs.First.{g_domain, g_cell, g_cells}
 use Rattle.ras_domain.proofs.Walks.{IsIn-at_place}
 
 -- a point of G has two coordinates, from 0 to 3
@@ -27,15 +27,15 @@ IsIn-g_domain a b low high left right (i ∷ j ∷ k ∷ p) inside = absurd insi
 
 -- what the code's arithmetic gives at a point of G
 pub cell_of-made : (p : List ℤ) → IsIn p g_domain
-    → to_z w64 (of_z w64 (to_z w64 (of_z w64 (pos 4 *ℤ to_z w64 (of_z w64 (get_or p 0 (pos 0))))) +ℤ to_z w64 (of_z w64 (get_or p 1 (pos 0))))) ≡ cell_of p
+    → to_z w64 (of_z w64 (to_z w64 (of_z w64 (pos 4 *ℤ to_z w64 (of_z w64 (get_or p 0 (pos 0))))) +ℤ to_z w64 (of_z w64 (get_or p 1 (pos 0))))) ≡ g_cell p
 cell_of-made = by_coordinates _ (λ i j low high left right. omega (arith, ints))
 
 -- a cell of G is read as it is
-cell_of-read : (p : List ℤ) → IsIn p g_domain → to_z w64 (of_z w64 (cell_of p)) ≡ cell_of p
+cell_of-read : (p : List ℤ) → IsIn p g_domain → to_z w64 (of_z w64 (g_cell p)) ≡ g_cell p
 cell_of-read = by_coordinates _ (λ i j low high left right. omega (arith, ints))
 
 -- the number at a point's place is its cell
-pub cell_of-at_place : (place : ℕ) (p : List ℤ) → slice_get (points_of g_domain) place ≡ Some p → to_z w64 (of_z w64 (get_or (cells_of g_domain) place (pos 0))) ≡ cell_of p
+pub cell_of-at_place : (place : ℕ) (p : List ℤ) → slice_get (points_of g_domain) place ≡ Some p → to_z w64 (of_z w64 (get_or (g_cells g_domain) place (pos 0))) ≡ g_cell p
 cell_of-at_place place p at =
-    let mapped : slice_get (cells_of g_domain) place ≡ Some (cell_of p) = slice_get-map cell_of (points_of g_domain) place ∙ ap (option_map cell_of) at in
-    ap (λ z. to_z w64 (of_z w64 z)) (get_or_from_slice_get (cells_of g_domain) place (cell_of p) (pos 0) mapped) ∙ cell_of-read p (IsIn-at_place g_domain place p at)
+    let mapped : slice_get (g_cells g_domain) place ≡ Some (g_cell p) = slice_get-map g_cell (points_of g_domain) place ∙ ap (option_map g_cell) at in
+    ap (λ z. to_z w64 (of_z w64 z)) (get_or_from_slice_get (g_cells g_domain) place (g_cell p) (pos 0) mapped) ∙ cell_of-read p (IsIn-at_place g_domain place p at)

@@ -7,13 +7,8 @@ use Rattle.std.proofs.Math.Nat.{mul-le-mul_left}
 use Rattle.ras_domain.specs.declared.region.Interval.{Interval}
 use Rattle.ras_domain.specs.Region.{HasSmallBounds, IsIn, IsOrdered, IsRegion, extent_of, points_of}
 use Rattle.ras_domain.proofs.Points.{int_gap_is, length-points_of}
-use Rattle.ras_core.specs.First.{g_domain, tiles_along}
-
--- the lower bounds are a point of the box
-IsIn-lows : (axes : List Interval) → All IsOrdered axes → IsIn (map (λ axis. axis.lo) axes) axes
-IsIn-lows [] ordered = tt
-IsIn-lows (axis ∷ axes) ordered =
-    (omega (arith, ints), All-head IsOrdered axis axes ordered, IsIn-lows axes (All-tail IsOrdered axis axes ordered))
+use Rattle.ras_core.specs.First.{IsWithinG, g_domain, tiles_along}
+use Rattle.ras_domain.proofs.PointSets.{IsIn-lows}
 
 -- and so are the upper ones
 IsIn-highs : (axes : List Interval) → All IsOrdered axes → IsIn (map (λ axis. axis.hi) axes) axes
@@ -28,19 +23,16 @@ half_within (pos a) (pos b) low le high = (omega (arith, ints), omega (arith, in
 half_within (pos a) (negsuc b) low le high = absurd (omega (arith, ints))
 half_within (negsuc a) hi low le high = absurd (omega (arith, ints))
 
--- bounds from 0 to 3
-abbrev pub IsShort : Interval → Type 0
-IsShort axis = (pos 0 ≤ℤ axis.lo) × (axis.lo ≤ℤ axis.hi) × (axis.hi ≤ℤ pos 3)
-
 -- two intervals with such bounds are a region
-pub IsRegion-short : (a b : Interval) → IsShort a → IsShort b → IsRegion (a ∷ b ∷ [])
+pub IsRegion-short : (a b : Interval) → IsWithinG a → IsWithinG b → IsRegion (a ∷ b ∷ [])
 IsRegion-short a b left right =
     let wide : extent_of a ≤ 4 = omega (arith, ints, int_gap_is a.lo (a.hi +ℤ pos 1), left.0, left.1, left.2) in
     let high : length (points_of (b ∷ [])) ≤ 4 = omega (arith, ints, length-points_of b [], int_gap_is b.lo (b.hi +ℤ pos 1), right.0, right.1, right.2) in
     record {
       some_axes = omega arith;
       few_axes = omega arith;
-      small_bounds = All-cons HasSmallBounds a (b ∷ []) (omega (arith, ints), omega (arith, ints)) (All-cons HasSmallBounds b [] (omega (arith, ints), omega (arith, ints)) (All-nil HasSmallBounds));
+      small_bounds = All-cons HasSmallBounds a (b ∷ []) (omega (arith, ints), omega (arith, ints))
+          (All-cons HasSmallBounds b [] (omega (arith, ints), omega (arith, ints)) (All-nil HasSmallBounds));
       ordered = All-cons IsOrdered a (b ∷ []) left.1 (All-cons IsOrdered b [] right.1 (All-nil IsOrdered));
       few_points = omega (arith, length-points_of a (b ∷ []), mul-le-mul_left (extent_of a) high);
     }

@@ -1,6 +1,6 @@
 //! The first path: one array, one select that trims it, and the six events of its transaction.
 ghost use Rattle.std.specs.Prelude.{◌≡◌, ℤ, List, [], ◌∷◌, IfOk, OnOk, OnErr, map};
-ghost use Rattle.ras_core.specs.First.{g_domain, cells_of, history_of, tiles_along, tile_lock};
+ghost use Rattle.ras_core.specs.First.{g_domain, g_cells, history_of, tiles_along, g_tile_lock};
 ghost use Rattle.ras_domain.specs.Region.{IsIn, points_of};
 
 use ras_domain::{Bounds, Interval, List, LockList, LockName, Mode, Name, Region};
@@ -30,13 +30,13 @@ pub struct FirstCore {
 impl Model for FirstCore {
     ghost use Rattle.std.specs.Prelude.{◌≡◌, List};
     ghost use Rattle.ras_core.specs.declared.first.FirstEvent.{FirstEvent};
-    ghost use Rattle.ras_core.specs.First.{g_domain, cells_of};
+    ghost use Rattle.ras_core.specs.First.{g_domain, g_cells};
 
     ghost Value = { List FirstEvent };
 
     ghost view = { λ c. c.events };
 
-    ghost invariant = { λ c. (c.domain ≡ g_domain) × (c.numbers ≡ cells_of g_domain) };
+    ghost invariant = { λ c. (c.domain ≡ g_domain) × (c.numbers ≡ g_cells g_domain) };
 }
 
 impl FirstCore {
@@ -58,7 +58,7 @@ impl FirstCore {
     pub fn trim(&mut self, alloc: Global, region: &Region) -> Result<Vec<i64>, AllocError>
         requires no_events { self.old ≡ [] }
         requires within { (p : List ℤ) → IsIn p region.now → IsIn p g_domain }
-        ensures cells { IfOk result (λ cells. cells.items ≡ cells_of region.now) }
+        ensures cells { IfOk result (λ cells. cells.items ≡ g_cells region.now) }
         ensures history { OnOk result (self.new ≡ history_of region.now) }
         ensures refused { OnErr result (self.new ≡ self.old) }
     {
@@ -89,7 +89,7 @@ fn whole_domain() -> Region
 /// 4 times the first coordinate and the second, at each point of G.
 fn numbers_on(alloc: Global, domain: &Region) -> Result<Vec<i64>, AllocError>
     requires { domain.now ≡ g_domain }
-    ensures { IfOk result (λ numbers. numbers.items ≡ cells_of g_domain) }
+    ensures { IfOk result (λ numbers. numbers.items ≡ g_cells g_domain) }
 {
     let mut numbers = Vec::with_capacity(alloc, 16)?;
     let mut next = Some(domain.first_point());
@@ -108,9 +108,9 @@ fn cells_within(
     region: &Region,
 ) -> Result<Vec<i64>, AllocError>
     requires domain { domain.now ≡ g_domain }
-    requires numbers { numbers.now ≡ cells_of g_domain }
+    requires numbers { numbers.now ≡ g_cells g_domain }
     requires within { (p : List ℤ) → IsIn p region.now → IsIn p g_domain }
-    ensures { IfOk result (λ cells. cells.items ≡ cells_of region.now) }
+    ensures { IfOk result (λ cells. cells.items ≡ g_cells region.now) }
 {
     let mut cells = Vec::new(alloc);
     let mut next = Some(region.first_point());
@@ -180,7 +180,7 @@ fn tile_places(region: &Region) -> Region
 
 /// A shared lock on each tile.
 fn tile_locks(alloc: Global, places: &Region) -> Result<LockList, AllocError>
-    ensures { IfOk result (λ list. list ≡ map tile_lock (points_of places.now)) }
+    ensures { IfOk result (λ list. list ≡ map g_tile_lock (points_of places.now)) }
 {
     let mut list = LockList::new(alloc);
     let mut next = Some(places.first_point());

@@ -5,7 +5,7 @@ use Rattle.std.proofs.lemmas.Int.{ints}
 use Rattle.ras_domain.specs.declared.region.Interval.{Interval}
 use Rattle.ras_domain.specs.declared.region.DomainFault.{DomainFault}
 use Rattle.ras_domain.specs.declared.region.DomainFault.TheVariants.{TooManyAxes, BoundOut, Empty, TooLarge}
-use Rattle.ras_domain.specs.Region.{HasFault, HasSmallBounds, IsOrdered, IsRegion}
+use Rattle.ras_domain.specs.Region.{HasDomainFault, HasSmallBounds, IsOrdered, IsRegion}
 
 -- where each element has P, none has what P excludes
 none_from_All : {X : Type 0} (P Q : X → Type 0) → ((x : X) → P x → Q x → ⊥) → (xs : List X) → All P xs → Any Q xs → ⊥
@@ -23,7 +23,7 @@ not_empty axes some ordered (inr any) =
     none_from_All IsOrdered (λ axis. axis.hi <ℤ axis.lo) (λ axis low high. absurd (omega (arith, ints, low, high))) axes ordered any
 
 -- two faults of a box are the same
-pub HasFault-one : (axes : List Interval) (f g : DomainFault) → HasFault axes f → HasFault axes g → f ≡ g
+pub HasFault-one : (axes : List Interval) (f g : DomainFault) → HasDomainFault axes f → HasDomainFault axes g → f ≡ g
 HasFault-one axes TooManyAxes TooManyAxes h k = refl
 HasFault-one axes TooManyAxes BoundOut h k = absurd (omega (arith, h, k.0))
 HasFault-one axes TooManyAxes Empty h k = absurd (omega (arith, h, k.0))
@@ -42,7 +42,7 @@ HasFault-one axes TooLarge Empty h k = absurd (not_empty axes h.2 h.3 k.2)
 HasFault-one axes TooLarge TooLarge h k = refl
 
 -- a region has none
-pub HasFault-none : (axes : List Interval) (f : DomainFault) → IsRegion axes → HasFault axes f → ⊥
+pub HasFault-none : (axes : List Interval) (f : DomainFault) → IsRegion axes → HasDomainFault axes f → ⊥
 HasFault-none axes TooManyAxes region h = absurd (omega (arith, region.few_axes, h))
 HasFault-none axes BoundOut region h = bounds_in axes region.small_bounds h.1
 HasFault-none axes Empty region h = not_empty axes region.some_axes region.ordered h.2

@@ -4,3 +4,4 @@ pub mod Places
 pub mod Points
 pub mod RowOrder
 pub mod Walks
+pub mod BoxTests

@@ -140,7 +140,8 @@ IsBack-all axes place left point h below = rw (mod-eq_of_lt below) at h.placed
 -- ---- the coordinates of a point of the box
 
 -- each coordinate lies within its interval
-IsIn-at : (p : List ℤ) (axes : List Interval) (i : ℕ) (c : ℤ) (axis : Interval) → IsIn p axes → i < length axes → c ≡ get_or p i c → axis ≡ get_or axes i axis → (axis.lo ≤ℤ c) × (c ≤ℤ axis.hi)
+IsIn-at : (p : List ℤ) (axes : List Interval) (i : ℕ) (c : ℤ) (axis : Interval) → IsIn p axes → i < length axes → c ≡ get_or p i c → axis ≡ get_or axes i axis
+    → (axis.lo ≤ℤ c) × (c ≤ℤ axis.hi)
 IsIn-at [] axes i c axis h below at here = absurd (omega (arith, length-from_IsIn [] axes h))
 IsIn-at (b ∷ p) [] i c axis h below at here = absurd h
 IsIn-at (b ∷ p) (a ∷ axes) zero c axis h below at here = rw (at, here) (h.0, h.1)

@@ -1,10 +1,10 @@
 -- Boxes as sets of points: covering, meeting, hull, shift, and leaving out an axis.
-use Rattle.std.proofs.Common.{◌≡◌, ℕ, zero, suc, ◌+◌, ◌*◌, ◌≤◌, ◌<◌, ℤ, pos, ◌+ℤ◌, ◌-ℤ◌, ◌≤ℤ◌, ◌↔◌, FitsSigned, Bool, true, false, cond, IsTrue, MatchBool, int_lt, to_z, of_z, List, [], ◌∷◌, ◌++◌, map, length, min, get_or, take, drop, All, refl, sym, ap, subst, ◌∙◌, arith}
+use Rattle.std.proofs.Common.{◌≡◌, ℕ, zero, suc, ◌+◌, ◌*◌, ◌≤◌, ◌<◌, ℤ, pos, ◌+ℤ◌, ◌-ℤ◌, ◌≤ℤ◌, ◌↔◌, FitsSigned, Bool, true, false, cond, IsTrue, MatchBool, int_lt, to_z, of_z, List, [], ◌∷◌, ◌++◌, map, length, get_or, take, drop, All, refl, sym, ap, subst, ◌∙◌, arith}
 use Rattle.std.specs.Int.{w32, w64, int_min, int_max}
 use Rattle.std.specs.List.{zip, remove, AllWithin, HoldsAt}
 use Rattle.std.proofs.lemmas.Bool.{false≢true}
 use Rattle.std.proofs.lemmas.Int.{ints, int_max_is, int_min_is}
-use Rattle.std.proofs.lemmas.List.{length-map, get_or-map, take_more, take_all}
+use Rattle.std.proofs.lemmas.List.{length-map, get_or-map, take_more}
 use Rattle.std.proofs.lemmas.List.Edits.{length-remove}
 use Rattle.std.proofs.lemmas.List.Elements.{All-nil, All-cons, All-head, All-tail, All-append, All-take, All-drop, All-from_all_within}
 use Rattle.std.proofs.lemmas.Slice.Zip.{length-zip, get_or-zip}
@@ -73,7 +73,8 @@ get_or-zip_map f xs ys n x y d h k at by =
     ∙ ap f (get_or-zip xs ys n (x, y) h k ∙ ap (λ z. (z, get_or ys n y)) (sym at) ∙ ap (λ z. (x, z)) (sym by))
 
 -- what has been pushed so far, and one more
-pub take-zip_turn : {A B C : Type 0} (f : A × B → C) (xs : List A) (ys : List B) (n m : ℕ) (x : A) (y : B) (z : C) (pushed : List C) → n < length xs → n < length ys → m ≡ n + 1 → x ≡ get_or xs n x → y ≡ get_or ys n y
+pub take-zip_turn : {A B C : Type 0} (f : A × B → C) (xs : List A) (ys : List B) (n m : ℕ) (x : A) (y : B) (z : C) (pushed : List C) → n < length xs → n < length ys
+    → m ≡ n + 1 → x ≡ get_or xs n x → y ≡ get_or ys n y
     → z ≡ f (x, y) → pushed ≡ take n (map f (zip xs ys)) → pushed ++ z ∷ [] ≡ take m (map f (zip xs ys))
 take-zip_turn f xs ys n m x y z pushed h k next at by is so_far =
     let more : take (n + 1) (map f (zip xs ys)) ≡ take n (map f (zip xs ys)) ++ get_or (map f (zip xs ys)) n z ∷ [] =
@@ -81,17 +82,13 @@ take-zip_turn f xs ys n m x y z pushed h k next at by is so_far =
     let here : get_or (map f (zip xs ys)) n z ≡ f (x, y) = get_or-zip_map f xs ys n x y z h k at by in
     rw (next, so_far, is, more, here) refl
 
--- at the end it is all
-pub take-zip_end : {A B C : Type 0} (f : A × B → C) (xs : List A) (ys : List B) (n : ℕ) (pushed : List C) → n ≡ min (length xs) (length ys) → pushed ≡ take n (map f (zip xs ys)) → pushed ≡ map f (zip xs ys)
-take-zip_end f xs ys n pushed all so_far =
-    so_far ∙ take_all n (map f (zip xs ys)) (omega (arith, length-map (zip xs ys) f, length-zip xs ys))
-
 -- the interval at a place in a region
 pub small_at : (axes : List Interval) (n : ℕ) (axis : Interval) → IsRegion axes → n < length axes → axis ≡ get_or axes n axis → HasSmallBounds axis
 small_at axes n axis region below at = rw (← at) at (region.small_bounds n axis below)
 
 -- what holds of each pair
-All-zip : {A B C : Type 0} (P : A → Type 0) (Q : B → Type 0) (R : C → Type 0) (f : A × B → C) → ((x : A) (y : B) → P x → Q y → R (f (x, y))) → (xs : List A) (ys : List B) → All P xs → All Q ys → All R (map f (zip xs ys))
+All-zip : {A B C : Type 0} (P : A → Type 0) (Q : B → Type 0) (R : C → Type 0) (f : A × B → C) → ((x : A) (y : B) → P x → Q y → R (f (x, y)))
+    → (xs : List A) (ys : List B) → All P xs → All Q ys → All R (map f (zip xs ys))
 All-zip P Q R f gives [] ys p q = All-nil R
 All-zip P Q R f gives (x ∷ xs) [] p q = All-nil R
 All-zip P Q R f gives (x ∷ xs) (y ∷ ys) p q =
@@ -153,11 +150,16 @@ Covers-from_zip (x ∷ xs) (y ∷ ys) same all (c ∷ p) within =
     (le_trans x.lo y.lo c here.0 within.0, le_trans c y.hi x.hi within.1 here.1, Covers-from_zip xs ys (omega arith) (All-tail IsWithin (x, y) (zip xs ys) all) p within.2)
 
 -- what a test of each pair of intervals says of the boxes
-pub Covers-from_cases : (big small : List Interval) (r : Bool) → All IsOrdered small → length big ≡ length small → MatchBool r (AllWithin IsWithin (zip big small) 0 (length (zip big small))) ((k : ℕ) × (k < length (zip big small)) × HoldsAt (λ x. ¬ IsWithin x) (zip big small) k) → IsTrue r ↔ Covers big small
+pub Covers-from_cases : (big small : List Interval) (r : Bool) → All IsOrdered small → length big ≡ length small
+    → MatchBool r (AllWithin IsWithin (zip big small) 0 (length (zip big small))) ((k : ℕ) × (k < length (zip big small))
+    × HoldsAt (λ x. ¬ IsWithin x) (zip big small) k) → IsTrue r ↔ Covers big small
 Covers-from_cases big small true ordered same all =
     (λ _. Covers-from_zip big small same (All-from_all_within IsWithin (zip big small) all), λ _. refl)
-Covers-from_cases big small false ordered same some =
-    (λ no. absurd (false≢true no), λ covers. let d : Interval × Interval = (record { lo = pos 0; hi = pos 0 }, record { lo = pos 0; hi = pos 0 }) in absurd (some.2 d (zip-from_Covers big small ordered covers some.0 d some.1)))
+Covers-from_cases big small false ordered same some = (
+  λ no. absurd (false≢true no),
+  λ covers. let d : Interval
+      × Interval = (record { lo = pos 0; hi = pos 0 }, record { lo = pos 0; hi = pos 0 }) in absurd (some.2 d (zip-from_Covers big small ordered covers some.0 d some.1)),
+)
 
 -- ordered boxes with the same points are the same
 pub Covers-antisym : (a b : List Interval) → All IsOrdered a → All IsOrdered b → Covers a b → Covers b a → a ≡ b
@@ -197,7 +199,8 @@ IsMeeting-meet_of (x ∷ xs) (y ∷ ys) same (c ∷ p) =
     )
 
 -- two intervals met as the code does it
-pub meet_of_axis-as_read : (x y : Interval) (low high : ℤ) → HasSmallBounds x → HasSmallBounds y → low ≡ int_max (to_z w64 (of_z w64 x.lo)) (to_z w64 (of_z w64 y.lo)) → high ≡ int_min (to_z w64 (of_z w64 x.hi)) (to_z w64 (of_z w64 y.hi))
+pub meet_of_axis-as_read : (x y : Interval) (low high : ℤ) → HasSmallBounds x → HasSmallBounds y → low ≡ int_max (to_z w64 (of_z w64 x.lo)) (to_z w64 (of_z w64 y.lo))
+    → high ≡ int_min (to_z w64 (of_z w64 x.hi)) (to_z w64 (of_z w64 y.hi))
     → interval (to_z w64 (of_z w64 low)) (to_z w64 (of_z w64 high)) ≡ meet_of_axis x y
 meet_of_axis-as_read x y low high p q lo hi =
     same_bounds _ (meet_of_axis x y) (int_max-as_read x.lo y.lo low p.0 q.0 lo) (int_min-as_read x.hi y.hi high p.1 q.1 hi)
@@ -225,7 +228,14 @@ length-points_of-meet_of [] (y ∷ ys) same = absurd (omega arith)
 length-points_of-meet_of (x ∷ xs) [] same = absurd (omega arith)
 length-points_of-meet_of (x ∷ xs) (y ∷ ys) same =
     let rest : length (points_of (meet_of xs ys)) ≤ length (points_of xs) = length-points_of-meet_of xs ys (omega arith) in
-    omega (arith, length-points_of x xs, length-points_of (meet_of_axis x y) (meet_of xs ys), mul-le-mul_left (extent_of (meet_of_axis x y)) rest, mul-le-mul_right (length (points_of xs)) (extent_of-meet_of_axis x y))
+    omega (
+      arith,
+      length-points_of x xs,
+      length-points_of (meet_of_axis x y) (meet_of xs ys),
+      mul-le-mul_left (extent_of (meet_of_axis x y)) rest,
+      mul-le-mul_right
+          (length (points_of xs)) (extent_of-meet_of_axis x y),
+    )
 
 HasSmallBounds-meet_of : (a b : List Interval) → All HasSmallBounds a → All HasSmallBounds b → All HasSmallBounds (meet_of a b)
 HasSmallBounds-meet_of =
@@ -246,7 +256,8 @@ IsRegion-meet_of a b same p q ordered =
 -- ---- the hull
 
 -- two intervals joined as the code does it
-pub hull_of_axis-as_read : (x y : Interval) (low high : ℤ) → HasSmallBounds x → HasSmallBounds y → low ≡ int_min (to_z w64 (of_z w64 x.lo)) (to_z w64 (of_z w64 y.lo)) → high ≡ int_max (to_z w64 (of_z w64 x.hi)) (to_z w64 (of_z w64 y.hi))
+pub hull_of_axis-as_read : (x y : Interval) (low high : ℤ) → HasSmallBounds x → HasSmallBounds y → low ≡ int_min (to_z w64 (of_z w64 x.lo)) (to_z w64 (of_z w64 y.lo))
+    → high ≡ int_max (to_z w64 (of_z w64 x.hi)) (to_z w64 (of_z w64 y.hi))
     → interval (to_z w64 (of_z w64 low)) (to_z w64 (of_z w64 high)) ≡ hull_of_axis x y
 hull_of_axis-as_read x y low high p q lo hi =
     same_bounds _ (hull_of_axis x y) (int_min-as_read x.lo y.lo low p.0 q.0 lo) (int_max-as_read x.hi y.hi high p.1 q.1 hi)
@@ -342,14 +353,16 @@ shifted_by-zip (d ∷ ds) [] same = absurd (omega arith)
 shifted_by-zip (d ∷ ds) (axis ∷ axes) same = ap (λ l. shifted_axis d axis ∷ l) (shifted_by-zip ds axes (omega arith))
 
 -- one more moved interval, in a loop over both lists
-pub shifted_by-turn : (d : List ℤ) (axes : List Interval) (n m : ℕ) (by : ℤ) (axis moved : Interval) (pushed : List Interval) → length d ≡ length axes → n < length axes → n < length d → m ≡ n + 1 → axis ≡ get_or axes n axis → by ≡ get_or d n by
+pub shifted_by-turn : (d : List ℤ) (axes : List Interval) (n m : ℕ) (by : ℤ) (axis moved : Interval) (pushed : List Interval) → length d ≡ length axes → n < length axes
+    → n < length d → m ≡ n + 1 → axis ≡ get_or axes n axis → by ≡ get_or d n by
     → moved ≡ shifted_axis by axis → pushed ≡ take n (shifted_by d axes) → pushed ++ moved ∷ [] ≡ take m (shifted_by d axes)
 shifted_by-turn d axes n m by axis moved pushed same h k next at there is so_far =
     let whole = shifted_by-zip d axes same in
     take-zip_turn (λ x. shifted_axis x.1 x.0) axes d n m axis by moved pushed h k next at there is (so_far ∙ ap (take n) whole) ∙ ap (take m) (sym whole)
 
 -- the moved interval at a place
-pub get_or-shifted_by : (d : List ℤ) (axes : List Interval) (n : ℕ) (by : ℤ) (axis e : Interval) → length d ≡ length axes → n < length axes → n < length d → axis ≡ get_or axes n axis → by ≡ get_or d n by
+pub get_or-shifted_by : (d : List ℤ) (axes : List Interval) (n : ℕ) (by : ℤ) (axis e : Interval) → length d ≡ length axes → n < length axes → n < length d
+    → axis ≡ get_or axes n axis → by ≡ get_or d n by
     → get_or (shifted_by d axes) n e ≡ shifted_axis by axis
 get_or-shifted_by d axes n by axis e same h k at there =
     ap (λ l. get_or l n e) (shifted_by-zip d axes same) ∙ get_or-zip_map (λ x. shifted_axis x.1 x.0) axes d n axis by e h k at there

@@ -1,10 +1,10 @@
 -- What the points of a box are, and how many.
-use Rattle.std.proofs.Common.{◌≡◌, ℕ, zero, suc, ◌+◌, ◌-◌, ◌*◌, ◌≤◌, ◌<◌, ℤ, pos, negsuc, ◌+ℤ◌, ◌≤ℤ◌, ◌↔◌, Bool, true, false, IsTrue, MatchBool, List, [], ◌∷◌, map, length, get_or, drop, All, Contains, refl, sym, ap, subst, ◌∙◌, arith, length-append}
+use Rattle.std.proofs.Common.{◌≡◌, ℕ, suc, ◌+◌, ◌-◌, ◌*◌, ◌≤◌, ◌<◌, ℤ, pos, negsuc, ◌+ℤ◌, ◌≤ℤ◌, ◌↔◌, Bool, true, false, IsTrue, MatchBool, List, [], ◌∷◌, map, length, get_or, drop, All, Contains, refl, sym, ap, ◌∙◌, arith, length-append}
 use Rattle.std.specs.Int.{int_gap}
 use Rattle.std.specs.List.{flat_map, range_with_len, zip, AllWithin, HoldsAt}
 use Rattle.std.proofs.lemmas.Bool.{false≢true}
-use Rattle.std.proofs.lemmas.List.{length-map, get_or-map, at_drop_more}
-use Rattle.std.proofs.lemmas.List.Elements.{All-nil, All-cons, All-head, All-tail, All-drop, All-append, All-map, All-weaker, All-contains, All-from_all_within, Contains-append_left, Contains-append_right}
+use Rattle.std.proofs.lemmas.List.{length-map, at_drop_more}
+use Rattle.std.proofs.lemmas.List.Elements.{All-nil, All-cons, All-head, All-tail, All-drop, All-append, All-map, All-weaker, All-contains, All-from_all_within}
 use Rattle.std.proofs.lemmas.Int.{ints}
 use Rattle.std.proofs.Math.Nat.{mul-le-mul_left, le-mul_of_pos_right}
 use native.Mathlib.Nat.{mul_assoc}
@@ -12,6 +12,7 @@ use borrow.Author.Differences.{up, down}
 use Rattle.std.proofs.lemmas.List.FromFn.{length-range_with_len, get_or-range_with_len, length-map-range_with_len, get_or-map-range_with_len}
 use Rattle.ras_domain.specs.declared.region.Interval.{Interval}
 use Rattle.ras_domain.specs.Region.{IsOrdered, IsIn, extent_of, coordinates_of, points_of}
+use Rattle.law_lists.proofs.Elements.{Contains-map, Contains-flat_map}
 
 -- pieces of one length
 length-flat_map-same : {X A : Type 0} (f : X → List A) (n : ℕ) → ((x : X) → length (f x) ≡ n) → (xs : List X) → length (flat_map f xs) ≡ length xs * n
@@ -49,19 +50,22 @@ one-le-length-points_of (axis ∷ axes) ordered =
     omega (arith, length-points_of axis axes, mul-le-mul_left (extent_of axis) rest)
 
 -- the points of a part of the axes, one axis further
-length-points_of-drop_more : (axes : List Interval) (i : ℕ) (d : Interval) → i < length axes → length (points_of (drop i axes)) ≡ extent_of (get_or axes i d) * length (points_of (drop (i + 1) axes))
+length-points_of-drop_more : (axes : List Interval) (i : ℕ) (d : Interval) → i < length axes
+    → length (points_of (drop i axes)) ≡ extent_of (get_or axes i d) * length (points_of (drop (i + 1) axes))
 length-points_of-drop_more axes i d within =
     at_drop_more (λ xs. length (points_of xs)) axes i d within ∙ length-points_of (get_or axes i d) (drop (i + 1) axes)
 
 -- a running product of extents still leads to the number of points one axis further
-pub volume_more : (axes : List Interval) (i v e n : ℕ) (d : Interval) → i < length axes → e ≡ extent_of (get_or axes i d) → v * length (points_of (drop i axes)) ≡ n → v * e * length (points_of (drop (i + 1) axes)) ≡ n
+pub volume_more : (axes : List Interval) (i v e n : ℕ) (d : Interval) → i < length axes → e ≡ extent_of (get_or axes i d) → v * length (points_of (drop i axes)) ≡ n
+    → v * e * length (points_of (drop (i + 1) axes)) ≡ n
 volume_more axes i v e n d within is so_far =
     mul_assoc v e (length (points_of (drop (i + 1) axes)))
     ∙ ap (λ k. v * k) (ap (λ k. k * length (points_of (drop (i + 1) axes))) is ∙ sym (length-points_of-drop_more axes i d within))
     ∙ so_far
 
 -- and it is at most that number
-pub volume_more-le : (axes : List Interval) (i v e n : ℕ) (d : Interval) → All IsOrdered axes → i < length axes → e ≡ extent_of (get_or axes i d) → v * length (points_of (drop i axes)) ≡ n → v * e ≤ n
+pub volume_more-le : (axes : List Interval) (i v e n : ℕ) (d : Interval) → All IsOrdered axes → i < length axes → e ≡ extent_of (get_or axes i d)
+    → v * length (points_of (drop i axes)) ≡ n → v * e ≤ n
 volume_more-le axes i v e n d ordered within is so_far =
     let some : 1 ≤ length (points_of (drop (i + 1) axes)) = one-le-length-points_of (drop (i + 1) axes) (All-drop IsOrdered (i + 1) axes ordered) in
     omega (arith, volume_more axes i v e n d within is so_far, le-mul_of_pos_right (v * e) some)
@@ -76,19 +80,6 @@ All-flat_map : {X Y : Type 0} (P : X → Type 0) (Q : Y → Type 0) (f : X → L
 All-flat_map P Q f gives [] all = All-nil Q
 All-flat_map P Q f gives (x ∷ xs) all =
     All-append Q (f x) (flat_map f xs) (gives x (All-head P x xs all)) (All-flat_map P Q f gives xs (All-tail P x xs all))
-
--- what one piece contains, the pieces joined contain
-Contains-flat_map : {X Y : Type 0} (f : X → List Y) (xs : List X) (x : X) (y : Y) → Contains xs x → Contains (f x) y → Contains (flat_map f xs) y
-Contains-flat_map f [] x y has piece = absurd (omega (arith, has.1))
-Contains-flat_map f (z ∷ zs) x y (zero, within, is) piece =
-    Contains-append_left (f z) (flat_map f zs) y (subst (λ w. Contains (f w) y) (sym is) piece)
-Contains-flat_map f (z ∷ zs) x y (suc k, within, is) piece =
-    Contains-append_right (f z) (flat_map f zs) y (Contains-flat_map f zs x y (k, omega arith, is) piece)
-
--- each element, as f leaves it
-Contains-map : {X Y : Type 0} (f : X → Y) (xs : List X) (x : X) → Contains xs x → Contains (map f xs) (f x)
-Contains-map f xs x (k, within, is) =
-    (k, omega (arith, length-map xs f), get_or-map f xs k x (f x) within ∙ ap f is)
 
 -- the coordinate lies between the bounds
 abbrev pub IsBetween : Interval × ℤ → Type 0
@@ -158,7 +149,8 @@ length-from_IsIn (c ∷ p) [] within = absurd within
 length-from_IsIn (c ∷ p) (axis ∷ axes) within = ap (λ n. suc n) (length-from_IsIn p axes within.2)
 
 -- what a test of each pair says of the point
-pub IsIn-from_cases : (axes : List Interval) (p : List ℤ) (r : Bool) → length axes ≡ length p → MatchBool r (AllWithin IsBetween (zip axes p) 0 (length (zip axes p))) ((k : ℕ) × (k < length (zip axes p)) × HoldsAt (λ x. ¬ IsBetween x) (zip axes p) k) → IsTrue r ↔ IsIn p axes
+pub IsIn-from_cases : (axes : List Interval) (p : List ℤ) (r : Bool) → length axes ≡ length p
+    → MatchBool r (AllWithin IsBetween (zip axes p) 0 (length (zip axes p))) ((k : ℕ) × (k < length (zip axes p)) × HoldsAt (λ x. ¬ IsBetween x) (zip axes p) k) → IsTrue r ↔ IsIn p axes
 IsIn-from_cases axes p true same all =
     (λ _. IsIn-from_zip axes p same (All-from_all_within IsBetween (zip axes p) all), λ _. refl)
 IsIn-from_cases axes p false same some =

@@ -1,5 +1,5 @@
 -- The points of a box ascend, and so a point's place is the number of points before it.
-use Rattle.std.proofs.Common.{◌≡◌, ℕ, zero, suc, ◌+◌, ◌<◌, ℤ, pos, ◌+ℤ◌, Bool, true, false, cond, List, [], ◌∷◌, ◌++◌, map, Some, refl, sym, subst, ap, ◌∙◌, arith}
+use Rattle.std.proofs.Common.{◌≡◌, ℕ, zero, suc, ◌+◌, ◌<◌, ℤ, pos, ◌+ℤ◌, Bool, true, false, cond, List, [], ◌∷◌, ◌++◌, map, Some, refl, sym, ap, ◌∙◌, arith}
 use Rattle.std.specs.Cmp.{IsTotalOrder}
 use Rattle.std.specs.Cmp.Lexicographic.{slice_cmp}
 use Rattle.std.specs.List.{AllByRecursion, count_by, flat_map, range_with_len, slice_get}
@@ -15,40 +15,9 @@ use Rattle.std.proofs.lemmas.List.Sums.{sum_by-cons}
 use Rattle.std.proofs.lemmas.Map.Keys.{sorted_from_strictly_increasing}
 use Rattle.ras_domain.specs.declared.region.Interval.{Interval}
 use Rattle.ras_domain.specs.Region.{extent_of, coordinates_of, points_of, place_in_rows}
+use Rattle.law_lists.proofs.Each.{append_all, each_map, each_flat_map, each_any, each_weaker, each_found}
 
 -- ---- what holds of each element
-
--- of two lists, joined
-AllByRecursion-append : {X : Type 0} (P : X → Type 0) (xs ys : List X) → AllByRecursion P xs → AllByRecursion P ys → AllByRecursion P (xs ++ ys)
-AllByRecursion-append P [] ys front back = back
-AllByRecursion-append P (x ∷ xs) ys front back = (front.0, AllByRecursion-append P xs ys front.1 back)
-
--- of each element as f leaves it
-AllByRecursion-map : {X Y : Type 0} (P : X → Type 0) (Q : Y → Type 0) (f : X → Y) → ((x : X) → P x → Q (f x)) → (xs : List X) → AllByRecursion P xs → AllByRecursion Q (map f xs)
-AllByRecursion-map P Q f gives [] all = tt
-AllByRecursion-map P Q f gives (x ∷ xs) all = (gives x all.0, AllByRecursion-map P Q f gives xs all.1)
-
--- of the pieces, joined
-AllByRecursion-flat_map : {X Y : Type 0} (P : X → Type 0) (Q : Y → Type 0) (f : X → List Y) → ((x : X) → P x → AllByRecursion Q (f x)) → (xs : List X) → AllByRecursion P xs → AllByRecursion Q (flat_map f xs)
-AllByRecursion-flat_map P Q f gives [] all = tt
-AllByRecursion-flat_map P Q f gives (x ∷ xs) all =
-    AllByRecursion-append Q (f x) (flat_map f xs) (gives x all.0) (AllByRecursion-flat_map P Q f gives xs all.1)
-
--- what holds of everything
-AllByRecursion-any : {X : Type 0} (P : X → Type 0) → ((x : X) → P x) → (xs : List X) → AllByRecursion P xs
-AllByRecursion-any P holds [] = tt
-AllByRecursion-any P holds (x ∷ xs) = (holds x, AllByRecursion-any P holds xs)
-
--- a fact that follows
-AllByRecursion-weaker : {X : Type 0} (P Q : X → Type 0) → ((x : X) → P x → Q x) → (xs : List X) → AllByRecursion P xs → AllByRecursion Q xs
-AllByRecursion-weaker P Q gives [] all = tt
-AllByRecursion-weaker P Q gives (x ∷ xs) all = (gives x all.0, AllByRecursion-weaker P Q gives xs all.1)
-
--- of the element at a place
-AllByRecursion-slice_get : {X : Type 0} (P : X → Type 0) (xs : List X) (k : ℕ) (x : X) → AllByRecursion P xs → slice_get xs k ≡ Some x → P x
-AllByRecursion-slice_get P [] k x all is = absurd (cc)
-AllByRecursion-slice_get P (y ∷ ys) zero x all is = let same : y ≡ x = cc in subst P same all.0
-AllByRecursion-slice_get P (y ∷ ys) (suc k) x all is = AllByRecursion-slice_get P ys k x all.1 is
 
 -- ---- the place in a sorted list
 
@@ -67,43 +36,50 @@ is_lt-flip : {K : Type 0} {R : K → K → Ordering} → IsTotalOrder R → (x y
 is_lt-flip o x y less = ap is_lt (o.antisymm y x ∙ ap ordering_reverse less)
 
 -- in a list that ascends by a total order as many elements are below the k-th as stand before it
-count_by-below : {K : Type 0} {R : K → K → Ordering} → IsTotalOrder R → (ks : List K) (k : ℕ) (x : K) → IsStrictlySortedBy R ks → slice_get ks k ≡ Some x → count_by (λ q. is_lt (R q x)) ks ≡ k
+count_by-below : {K : Type 0} {R : K → K → Ordering} → IsTotalOrder R → (ks : List K) (k : ℕ) (x : K) → IsStrictlySortedBy R ks → slice_get ks k ≡ Some x
+    → count_by (λ q. is_lt (R q x)) ks ≡ k
 unfolding IsStrictlySortedBy
 count_by-below o [] k x sorted is = absurd (cc)
 count_by-below {R = R} o (y ∷ ys) zero x sorted is =
     let same : y ≡ x = cc in
     let here : is_lt (R y x) ≡ false = ap is_lt (ap (λ z. R z x) same ∙ tied_itself o x) in
-    let above = AllByRecursion-weaker (λ z. R y z ≡ Less) (λ z. is_lt (R z x) ≡ false) (λ z less. is_lt-flip o x z (ap (λ v. R v z) (sym same) ∙ less)) ys sorted.0 in
+    let above = each_weaker (λ z. R y z ≡ Less) (λ z. is_lt (R z x) ≡ false) (λ z less. is_lt-flip o x z (ap (λ v. R v z) (sym same) ∙ less)) ys sorted.0 in
     count_by-none (λ q. is_lt (R q x)) (y ∷ ys) (here, above)
 count_by-below {R = R} o (y ∷ ys) (suc k) x sorted is =
-    let here : one_if (is_lt (R y x)) ≡ 1 = ap (λ r. one_if (is_lt r)) (AllByRecursion-slice_get (λ z. R y z ≡ Less) ys k x sorted.0 is) in
+    let here : one_if (is_lt (R y x)) ≡ 1 = ap (λ r. one_if (is_lt r)) (each_found (λ z. R y z ≡ Less) ys k x sorted.0 is) in
     omega (arith, sum_by-cons (λ q. one_if (is_lt (R q x))) y ys, here, count_by-below o ys k x sorted.1 is)
 
 -- ---- the points ascend
 
 -- two ascending lists, joined, where each element of the first is below those of the second
-IsStrictlySortedBy-append : {K : Type 0} (R : K → K → Ordering) (xs ys : List K) → IsStrictlySortedBy R xs → IsStrictlySortedBy R ys → AllByRecursion (λ x. AllByRecursion (λ y. R x y ≡ Less) ys) xs → IsStrictlySortedBy R (xs ++ ys)
+IsStrictlySortedBy-append : {K : Type 0} (R : K → K → Ordering) (xs ys : List K) → IsStrictlySortedBy R xs → IsStrictlySortedBy R ys
+    → AllByRecursion (λ x. AllByRecursion (λ y. R x y ≡ Less) ys) xs → IsStrictlySortedBy R (xs ++ ys)
 unfolding IsStrictlySortedBy
 IsStrictlySortedBy-append R [] ys front back below = back
 IsStrictlySortedBy-append R (x ∷ xs) ys front back below =
-    (AllByRecursion-append (λ y. R x y ≡ Less) xs ys front.0 below.0, IsStrictlySortedBy-append R xs ys front.1 back below.1)
+    (append_all (λ y. R x y ≡ Less) xs ys front.0 below.0, IsStrictlySortedBy-append R xs ys front.1 back below.1)
 
 -- a function that keeps the order
-IsStrictlySortedBy-map : {J K : Type 0} (R : J → J → Ordering) (S : K → K → Ordering) (f : J → K) → ((x y : J) → R x y ≡ Less → S (f x) (f y) ≡ Less) → (xs : List J) → IsStrictlySortedBy R xs → IsStrictlySortedBy S (map f xs)
+IsStrictlySortedBy-map : {J K : Type 0} (R : J → J → Ordering) (S : K → K → Ordering) (f : J → K) → ((x y : J) → R x y ≡ Less → S (f x) (f y) ≡ Less) → (xs : List J)
+    → IsStrictlySortedBy R xs → IsStrictlySortedBy S (map f xs)
 unfolding IsStrictlySortedBy
 IsStrictlySortedBy-map R S f keeps [] sorted = tt
 IsStrictlySortedBy-map R S f keeps (x ∷ xs) sorted =
-    (AllByRecursion-map (λ y. R x y ≡ Less) (λ y. S (f x) y ≡ Less) f (keeps x) xs sorted.0, IsStrictlySortedBy-map R S f keeps xs sorted.1)
+    (each_map (λ y. R x y ≡ Less) (λ y. S (f x) y ≡ Less) f (keeps x) xs sorted.0, IsStrictlySortedBy-map R S f keeps xs sorted.1)
 
 -- rows under ascending coordinates
-rows_ascend : (cs : List ℤ) (ps : List (List ℤ)) → IsStrictlySortedBy int_cmp cs → IsStrictlySortedBy (slice_cmp int_cmp) ps → IsStrictlySortedBy (slice_cmp int_cmp) (flat_map (λ c. map (λ p. c ∷ p) ps) cs)
+rows_ascend : (cs : List ℤ) (ps : List (List ℤ)) → IsStrictlySortedBy int_cmp cs → IsStrictlySortedBy (slice_cmp int_cmp) ps
+    → IsStrictlySortedBy (slice_cmp int_cmp) (flat_map (λ c. map (λ p. c ∷ p) ps) cs)
 unfolding IsStrictlySortedBy
 rows_ascend [] ps coordinates points = tt
 rows_ascend (c ∷ cs) ps coordinates points =
-    let within = IsStrictlySortedBy-map (slice_cmp int_cmp) (slice_cmp int_cmp) (λ p. c ∷ p) (λ p q less. ap (λ r. ordering_then r (slice_cmp int_cmp p q)) (tied_itself int_cmp_total c) ∙ less) ps points in
-    let later = λ (p : List ℤ). AllByRecursion-flat_map (λ d. int_cmp c d ≡ Less) (λ q. slice_cmp int_cmp (c ∷ p) q ≡ Less) (λ d. map (λ q. d ∷ q) ps) (λ d less. AllByRecursion-map (λ q. Unit {0}) (λ q. slice_cmp int_cmp (c ∷ p) q ≡ Less) (λ q. d ∷ q) (λ q _. ap (λ r. ordering_then r (slice_cmp int_cmp p q)) less) ps (AllByRecursion-any (λ q. Unit {0}) (λ q. tt) ps)) cs coordinates.0 in
+    let within = IsStrictlySortedBy-map (slice_cmp int_cmp) (slice_cmp int_cmp) (λ p. c ∷ p)
+    (λ p q less. ap (λ r. ordering_then r (slice_cmp int_cmp p q)) (tied_itself int_cmp_total c) ∙ less) ps points in
+    let later = λ (p : List ℤ). each_flat_map (λ d. int_cmp c d ≡ Less) (λ q. slice_cmp int_cmp (c ∷ p) q ≡ Less) (λ d. map (λ q. d ∷ q) ps)
+    (λ d less. each_map (λ q. Unit {0}) (λ q. slice_cmp int_cmp (c ∷ p) q ≡ Less) (λ q. d ∷ q) (λ q _. ap (λ r. ordering_then r (slice_cmp int_cmp p q)) less) ps
+    (each_any (λ q. Unit {0}) (λ q. tt) ps)) cs coordinates.0 in
     IsStrictlySortedBy-append (slice_cmp int_cmp) (map (λ p. c ∷ p) ps) (flat_map (λ d. map (λ p. d ∷ p) ps) cs) within (rows_ascend cs ps coordinates.1 points)
-    (AllByRecursion-map (λ p. Unit {0}) _ (λ p. c ∷ p) (λ p _. later p) ps (AllByRecursion-any (λ p. Unit {0}) (λ p. tt) ps))
+    (each_map (λ p. Unit {0}) _ (λ p. c ∷ p) (λ p _. later p) ps (each_any (λ p. Unit {0}) (λ p. tt) ps))
 
 -- ascending numbers, counted from lo
 int_cmp-up : (lo : ℤ) (m n : ℕ) → nat_cmp m n ≡ Less → int_cmp (lo +ℤ pos m) (lo +ℤ pos n) ≡ Less

@@ -60,5 +60,6 @@ map_back f back reads [] = refl
 map_back f back reads (p ∷ ps) = let first = reads p in let rest = map_back f back reads ps in cc
 
 -- after the last point, where each item tells its point
-pub IsWalk-read : {A : Type 0} (f : List ℤ → A) (back : A → List ℤ) → ((p : List ℤ) → back (f p) ≡ p) → (axes : List Interval) (made : List A) → IsWalk f axes None made → map back made ≡ points_of axes
+pub IsWalk-read : {A : Type 0} (f : List ℤ → A) (back : A → List ℤ) → ((p : List ℤ) → back (f p) ≡ p) → (axes : List Interval) (made : List A) → IsWalk f axes None made
+    → map back made ≡ points_of axes
 IsWalk-read f back reads axes made h = ap (map back) (IsWalk-end f axes made h) ∙ map_back f back reads (points_of axes)

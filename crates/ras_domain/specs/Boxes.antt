@@ -1,16 +1,25 @@
 -- What becomes of boxes as sets of points: one that covers another, the meeting and the hull of two,
 -- a box moved along, and a box with an axis left out.
-use Rattle.std.specs.Prelude.{◌≡◌, ℕ, ℤ, ◌+ℤ◌, ◌↔◌, List, [], ◌∷◌, map}
+use Rattle.std.specs.Prelude.{◌≡◌, ℕ, ℤ, ◌+ℤ◌, ◌↔◌, ◌≤ℤ◌, List, [], ◌∷◌, map, ◌==◌, int_le, Bool, ◌&&◌, length}
 use Rattle.std.specs.Int.{int_min, int_max}
-use Rattle.std.specs.List.{zip, remove}
+use Rattle.std.specs.List.{zip, remove, list_all}
 use Rattle.ras_domain.specs.declared.region.Interval.{Interval}
 use Rattle.ras_domain.specs.Region.{IsIn}
+use Rattle.std.specs.Ordering.{int_eq}
+use Rattle.std.specs.Cmp.Lexicographic.{pointwise}
 
 -- ---- points
 
 -- each point of the small box is in the big one
 abbrev pub Covers : List Interval → List Interval → Type 0
 Covers big small = (p : List ℤ) → IsIn p small → IsIn p big
+
+-- equally many intervals, each within its own
+abbrev pub LiesIn : List Interval → List Interval → Type 0
+LiesIn [] [] = Unit {0}
+LiesIn (x ∷ small) (y ∷ big) = (y.lo ≤ℤ x.lo) × (x.hi ≤ℤ y.hi) × LiesIn small big
+LiesIn [] (y ∷ big) = ⊥
+LiesIn (x ∷ small) [] = ⊥
 
 -- no point is in both
 abbrev pub AreDisjoint : List Interval → List Interval → Type 0
@@ -67,3 +76,20 @@ abbrev pub shifted_by : List ℤ → List Interval → List Interval
 shifted_by [] axes = axes
 shifted_by (d ∷ ds) [] = []
 shifted_by (d ∷ ds) (axis ∷ axes) = shifted_axis d axis ∷ shifted_by ds axes
+
+-- ---- tests
+
+abbrev pub is_same_interval : Interval → Interval → Bool
+is_same_interval a b = int_eq a.lo b.lo && int_eq a.hi b.hi
+
+-- whether two boxes have the same intervals
+abbrev pub is_same_box : List Interval → List Interval → Bool
+is_same_box = pointwise is_same_interval
+
+-- the first interval lies within the second
+abbrev pub is_within : Interval × Interval → Bool
+is_within both = int_le both.1.lo both.0.lo && int_le both.0.hi both.1.hi
+
+-- whether a box has as many intervals as another one, each within its own
+abbrev pub lies_in : List Interval → List Interval → Bool
+lies_in small big = (length small == length big) && list_all is_within (zip small big)

@@ -1,13 +1,13 @@
 //! Laws of the definitions, each the contract of a function that does nothing.
-ghost use Rattle.std.specs.Prelude.{List, ℤ, ℕ, ◌≡◌, ◌<◌, ◌↔◌, length, All, Contains};
+ghost use Rattle.std.specs.Prelude.{List, ℤ, ℕ, ◌≡◌, ◌<◌, ◌↔◌, false, length, All, Contains, IsTrue};
 ghost use Rattle.std.specs.List.{remove};
 ghost use Rattle.std.specs.Ordering.{int_cmp};
 ghost use Rattle.std.specs.List.Sorted.{IsStrictlySortedBy};
 ghost use Rattle.std.specs.Cmp.Lexicographic.{slice_cmp};
 ghost use Rattle.ras_domain.specs.declared.region.Interval.{Interval};
 ghost use Rattle.ras_domain.specs.declared.region.DomainFault.{DomainFault};
-ghost use Rattle.ras_domain.specs.Region.{points_of, IsIn, IsOrdered, IsRegion, HasFault};
-ghost use Rattle.ras_domain.specs.Boxes.{IsMeeting, IsHull, IsShifted, IsCut, meet_of, hull_of, moved_by, shifted_by};
+ghost use Rattle.ras_domain.specs.Region.{points_of, IsIn, IsOrdered, IsRegion, HasDomainFault, is_empty, is_in, volume_of};
+ghost use Rattle.ras_domain.specs.Boxes.{Covers, LiesIn, IsMeeting, IsHull, IsShifted, IsCut, is_same_box, lies_in, meet_of, hull_of, moved_by, shifted_by};
 
 /// The points of a box are those with one coordinate from each interval.
 pub fn points_are_those_within()
@@ -21,12 +21,12 @@ pub fn rows_ascend()
 
 /// A box has at most one fault.
 pub fn faults_exclude_each_other()
-    ensures { (axes : List Interval) (f g : DomainFault) → HasFault axes f → HasFault axes g → f ≡ g }
+    ensures { (axes : List Interval) (f g : DomainFault) → HasDomainFault axes f → HasDomainFault axes g → f ≡ g }
 {}
 
 /// A region has no fault.
 pub fn regions_have_no_fault()
-    ensures { (axes : List Interval) (f : DomainFault) → IsRegion axes → ¬ HasFault axes f }
+    ensures { (axes : List Interval) (f : DomainFault) → IsRegion axes → ¬ HasDomainFault axes f }
 {}
 
 /// Two regions with the same points are the same.
@@ -59,4 +59,24 @@ pub fn shifted_box_has_shifted_points_alone()
 /// Without one interval, a box has its points with that coordinate left out.
 pub fn cut_box_has_the_cut_points()
     ensures { (axis : ℕ) (axes : List Interval) → All IsOrdered axes → axis < length axes → IsCut axis axes (remove axes axis) }
+{}
+
+/// The volume of a box is the number of its points.
+pub fn volumes_count_points()
+    ensures { (axes : List Interval) → volume_of axes ≡ length (points_of axes) }
+{}
+
+/// The tests of points and boxes are right: a point is found in a box exactly where it is in it, an
+/// interval is empty exactly where its bounds fall, and two boxes are found to be the same exactly
+/// where they are.
+pub fn tests_say_what_they_test()
+    ensures points { (p : List ℤ) (axes : List Interval) → IsTrue (is_in p axes) ↔ IsIn p axes }
+    ensures ordered { (axis : Interval) → is_empty axis ≡ false ↔ IsOrdered axis }
+    ensures same { (a b : List Interval) → IsTrue (is_same_box a b) ↔ a ≡ b }
+    ensures within { (small big : List Interval) → IsTrue (lies_in small big) ↔ LiesIn small big }
+{}
+
+/// A box whose intervals lie within those of another one has no other points.
+pub fn boxes_within_are_covered()
+    ensures { (small big : List Interval) → LiesIn small big → Covers big small }
 {}

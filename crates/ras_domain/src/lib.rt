@@ -21,3 +21,6 @@ pub const MAX_AXES: usize = 6;
 
 /// The most points that a region may have: 2^24.
 pub const MAX_POINTS: u64 = 16_777_216;
+
+/// The most cells that a tile may have.
+pub const MAX_TILE_CELLS: u64 = 65_536;

@@ -56,14 +56,14 @@ impl Model for Region {
 }
 
 impl Region {
-    ghost use Rattle.ras_domain.specs.Region.{IsRegion, HasFault, HasSmallBounds, IsIn, points_of, place_in_rows};
+    ghost use Rattle.ras_domain.specs.Region.{IsRegion, HasDomainFault, HasSmallBounds, IsIn, points_of, place_in_rows};
     ghost use Rattle.ras_domain.specs.Boxes.{Covers, AreDisjoint, IsMeeting, IsHull, IsShifted, IsCut, meet_of, hull_of, shifted_by};
     ghost use Rattle.ras_domain.specs.declared.region.DomainFault.TheVariants.{BoundOut, TooLarge};
 
     /// The box of these intervals, or the first fault in the order of [`DomainFault`].
     pub fn new(axes: &[Interval]) -> Result<Region, DomainFault>
         ensures region { IfOk result (λ region. (region ≡ axes.now) × IsRegion axes.now) }
-        ensures fault { IfErr result (λ fault. HasFault axes.now fault) }
+        ensures fault { IfErr result (λ fault. HasDomainFault axes.now fault) }
     {
         let Ok(bounds) = Bounds::try_from(axes) else {
             return Err(DomainFault::TooManyAxes);

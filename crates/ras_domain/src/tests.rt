@@ -413,3 +413,34 @@ fn locks_stand_in_order_and_so_do_those_of_a_copy(rt: HostRuntime) -> Result<(),
     }
     Ok(())
 }
+
+#[test]
+fn long_lists_keep_their_items(rt: HostRuntime) -> Result<(), Fail> {
+    let mut list = List::new(rt.alloc());
+    for item in 0..5_000u32 {
+        assert_eq!(rt; list.push(rt.alloc(), item), Ok(()));
+    }
+    assert!(rt; list.as_slice().iter().copied().eq(0..5_000));
+    let mut locks = LockList::new(rt.alloc());
+    for oid in 0..3_000u64 {
+        let name = Name::of(rt.alloc(), b"G")?;
+        assert!(rt;
+            locks
+                .push(rt.alloc(), LockName::Domain(name, oid), Mode::Shared)
+                .is_ok()
+        );
+    }
+    let copy = locks.try_clone(rt.alloc())?;
+    assert_eq!(rt; copy.len(), 3_000);
+    for place in 0..copy.len() {
+        let (lock, mode) = copy.get(place);
+        assert_eq!(rt;
+            (parts_of(lock), mode),
+            (
+                ("domain", b"G".as_slice(), place as u64, [].as_slice()),
+                Mode::Shared
+            )
+        );
+    }
+    Ok(())
+}

@@ -58,7 +58,8 @@ module _ {K : Type 0} {taken : K → Option (List ℕ)} {faults : K → ℕ} whe
   }
 
   -- a write that failed at the rest of a text
-  pub Stopped-at : {a b c : K} {xs : List ℕ} (ys : List ℕ) → Wrote taken faults a b xs → Keeps (taken b) (taken c) → faults b ≤ faults c → Rose (faults b) (faults c) → Stopped taken faults a c (xs ++ ys)
+  pub Stopped-at : {a b c : K} {xs : List ℕ} (ys : List ℕ) → Wrote taken faults a b xs → Keeps (taken b) (taken c) → faults b ≤ faults c → Rose (faults b) (faults c)
+      → Stopped taken faults a c (xs ++ ys)
   Stopped-at {a} {b} {c} {xs} ys p kept later rose = record {
     front = xs;
     rest = ys;
@@ -81,12 +82,14 @@ module _ {K : Type 0} {taken : K → Option (List ℕ)} {faults : K → ℕ} whe
 
 -- a loop that writes the text of each element stopped at the one at index i
 module _ {K X : Type 0} {taken : K → Option (List ℕ)} {faults : K → ℕ} (f : X → List ℕ) where
-  pub Stopped-in : {a b c : K} (xs : List X) (i : ℕ) (d : X) → i < length xs → Wrote taken faults a b (flat_map f (take i xs)) → Stopped taken faults b c (f (get_or xs i d)) → Stopped taken faults a c (flat_map f xs)
+  pub Stopped-in : {a b c : K} (xs : List X) (i : ℕ) (d : X) → i < length xs → Wrote taken faults a b (flat_map f (take i xs))
+      → Stopped taken faults b c (f (get_or xs i d)) → Stopped taken faults a c (flat_map f xs)
   Stopped-in xs i d h p q =
       let parts : flat_map f xs ≡ flat_map f (take i xs) ++ (f (get_or xs i d) ++ flat_map f (drop (i + 1) xs)) =
       ap (flat_map f) (sym (take-append-drop i xs)) ∙ flat_map-append f (take i xs) (drop i xs) ∙ ap (λ l. flat_map f (take i xs) ++ flat_map f l) (drop_more xs i d h) in
       subst (Stopped taken faults _ _) (sym parts) (Stopped-later p (Stopped-longer (flat_map f (drop (i + 1) xs)) q))
 
   -- the same, where the element has a name of its own
-  pub Stopped-in_item : {a b c : K} (xs : List X) (i : ℕ) (x : X) → i < length xs → x ≡ get_or xs i x → Wrote taken faults a b (flat_map f (take i xs)) → Stopped taken faults b c (f x) → Stopped taken faults a c (flat_map f xs)
+  pub Stopped-in_item : {a b c : K} (xs : List X) (i : ℕ) (x : X) → i < length xs → x ≡ get_or xs i x → Wrote taken faults a b (flat_map f (take i xs))
+      → Stopped taken faults b c (f x) → Stopped taken faults a c (flat_map f xs)
   Stopped-in_item {a} {b} {c} xs i x h e p q = Stopped-in xs i x h p (subst (λ (y : X). Stopped taken faults b c (f y)) e q)

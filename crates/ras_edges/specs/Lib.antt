@@ -1,6 +1,7 @@
 pub mod Faults
 pub mod Failing
 pub mod Gathering
+pub mod Holding
 pub mod Memory
 pub mod Piece
 pub mod Sink

@@ -5,6 +5,7 @@
 mod failing;
 mod gate;
 mod gathering;
+mod holding;
 mod memory;
 mod piece;
 mod sink;
@@ -14,6 +15,7 @@ mod standard;
 pub use failing::{FailingSink, FailingSource};
 pub use gate::{Gate, GatePlace, OpenGate};
 pub use gathering::GatheringSink;
+pub use holding::HoldingGate;
 pub use memory::{MemorySink, MemorySource};
 pub use piece::{Piece, write_pieces};
 pub use sink::{Sink, write_whole};

@@ -1,8 +1,8 @@
 //! Values worked out by hand, and what no clause says: what reaches standard output, what comes
 //! from standard input, and that calls which need memory succeed.
 use crate::{
-    Failed, FailingSink, FailingSource, Gate, GatePlace, GatheringSink, MemorySink, MemorySource,
-    OpenGate, Piece, Sink, Source, StdSink, StdSource, write_pieces, write_whole,
+    Failed, FailingSink, FailingSource, Gate, GatePlace, GatheringSink, HoldingGate, MemorySink,
+    MemorySource, OpenGate, Piece, Sink, Source, StdSink, StdSource, write_pieces, write_whole,
 };
 use std::alloc::{Allocator, Global};
 use std::io::{BufRead, Cursor, Error, ErrorKind, Input, Lines, Read, Result as IoResult, Write};
@@ -347,6 +347,35 @@ fn pass_all<G: Gate>(gate: &G) {
 #[test]
 fn an_open_gate_holds_nobody() {
     pass_all(&OpenGate);
+}
+
+#[test]
+fn a_holding_gate_expires_where_nobody_opens_it(rt: HostRuntime) {
+    let held = GatePlace::PieceStart { piece: 1 };
+    let until = GatePlace::PieceDone { piece: 2 };
+    let others = [
+        GatePlace::Evaluate {
+            session: 1,
+            statement: 2,
+        },
+        GatePlace::PieceStart { piece: 2 },
+        GatePlace::PieceDone { piece: 1 },
+    ];
+    let cases: [(&[GatePlace], bool); 6] = [
+        (&[], false),
+        (&[held], true),
+        (&[until, held, held], false),
+        (&[others[0], others[1], others[2], until], false),
+        (&[others[0], others[1], others[2], held], true),
+        (&[held, until, held], true),
+    ];
+    for (places, want) in cases {
+        let gate = HoldingGate::new(held, until, 1000);
+        for place in places {
+            gate.pass(*place);
+        }
+        assert_eq!(rt; gate.expired(), want, "after {places:?}");
+    }
 }
 
 /// A reader and a writer of bytes in memory, at most three a call, that fails at one call.

@@ -53,8 +53,11 @@ IsFloor-grid_interval e c q =
 
 -- a coordinate lies in a tile exactly where its place is the tile's
 pub IsWithin-grid_interval : (e : ℕ) (c q : ℤ) → 1 ≤ e → IsWithin (grid_interval e q) c ↔ (place_along e c ≡ q)
-IsWithin-grid_interval e c q some =
-    (λ within. floors_agree e c (place_along e c) q (IsFloor-place_along e c some) ((IsFloor-grid_interval e c q).1 within), λ same. rw same at ((IsFloor-grid_interval e c (place_along e c)).0 (IsFloor-place_along e c some)))
+IsWithin-grid_interval e c q some = (
+  λ within. floors_agree e c (place_along e c) q (IsFloor-place_along e c some) ((IsFloor-grid_interval e c q).1 within),
+  λ same. rw same at
+      ((IsFloor-grid_interval e c (place_along e c)).0 (IsFloor-place_along e c some)),
+)
 
 -- places ascend with the coordinates
 pub place_along-ascends : (e : ℕ) (c d : ℤ) → 1 ≤ e → c ≤ℤ d → place_along e c ≤ℤ place_along e d
@@ -71,7 +74,8 @@ IsWithin-meet_of_axis a b c = (
 -- a tile and an interval have something in common exactly where its place is one of the interval's places
 pub IsOrdered-common : (e : ℕ) (q : ℤ) (axis : Interval) → 1 ≤ e → IsOrdered axis → IsOrdered (meet_of_axis (grid_interval e q) axis) ↔ IsWithin (places_along e axis) q
 IsOrdered-common e q axis some ordered =
-    let low : place_along e axis.lo ≤ℤ q → axis.lo <ℤ ((q *ℤ pos e) +ℤ pos e) = λ le. omega (arith, ints, after_product e q, products_ascend e (place_along e axis.lo +ℤ pos 1) (q +ℤ pos 1) (omega (arith, ints, le)), (IsFloor-place_along e axis.lo some).1) in
+    let low : place_along e axis.lo ≤ℤ q → axis.lo <ℤ ((q *ℤ pos e) +ℤ pos e) = λ le. omega
+    (arith, ints, after_product e q, products_ascend e (place_along e axis.lo +ℤ pos 1) (q +ℤ pos 1) (omega (arith, ints, le)), (IsFloor-place_along e axis.lo some).1) in
     let high : q ≤ℤ place_along e axis.hi → (q *ℤ pos e) ≤ℤ axis.hi = λ le. omega (arith, ints, products_ascend e q (place_along e axis.hi) le, (IsFloor-place_along e axis.hi some).0) in (
       λ met. let c : ℤ = int_max (q *ℤ pos e) axis.lo in
           let both = (IsWithin-meet_of_axis (grid_interval e q) axis c).0 (omega (arith, ints), met) in
@@ -111,7 +115,13 @@ gaps_shrink : (e : ℕ) (c d : ℤ) → 1 ≤ e → c ≤ℤ d → (place_along 
 gaps_shrink e c d some le =
     let q : ℤ = place_along e c in
     let r : ℤ = place_along e d in
-    by_lt_z q r (λ lt. omega (arith, ints, products_apart e (q +ℤ pos 1) r some (omega (arith, ints, lt)), (IsFloor-place_along e c some).1, (IsFloor-place_along e d some).0)) (λ back. omega (arith, ints, le, back))
+    by_lt_z q r (λ lt. omega (
+      arith,
+      ints,
+      products_apart e (q +ℤ pos 1) r some (omega (arith, ints, lt)),
+      (IsFloor-place_along e c some).1,
+      (IsFloor-place_along e d some).0,
+    )) (λ back. omega (arith, ints, le, back))
 
 -- an interval has no more places than coordinates
 pub places_along-few : (e : ℕ) (axis : Interval) → 1 ≤ e → IsOrdered axis → extent_of (places_along e axis) ≤ extent_of axis
@@ -131,4 +141,5 @@ meet_of_axis-few a b ordered =
 -- the answer of a test whether an interval is ordered
 pub some_where_ordered : (i : Interval) (r : Option Interval) → r ≡ then_some (le_z i.lo i.hi) i → MatchOption r (¬ IsOrdered i) (λ found. (found ≡ i) × IsOrdered i)
 some_where_ordered i r is =
-    rw is (elim (le_z i.lo i.hi) as (λ b. le_z i.lo i.hi ≡ b → MatchOption (then_some b i) (¬ IsOrdered i) (λ found. (found ≡ i) × IsOrdered i)) [ true ↦ λ fits. (refl, omega (arith, ints, fits)) | false ↦ λ fails. λ ordered. absurd (omega (arith, ints, fails, ordered)) ] refl)
+    rw is (elim (le_z i.lo i.hi) as (λ b. le_z i.lo i.hi ≡ b → MatchOption (then_some b i) (¬ IsOrdered i) (λ found. (found ≡ i) × IsOrdered i))
+    [ true ↦ λ fits. (refl, omega (arith, ints, fits)) | false ↦ λ fails. λ ordered. absurd (omega (arith, ints, fails, ordered)) ] refl)

@@ -1,3 +1,3 @@
 pub mod Floors
+pub mod Shares
 pub mod Tiles
-pub mod Zips

@@ -2,7 +2,6 @@
 use Rattle.std.proofs.Common.{◌≡◌, ℕ, zero, suc, ◌<◌, ◌≤◌, ℤ, pos, ◌↔◌, List, [], ◌∷◌, map, length, get_or, All, Contains, refl, sym, ◌∙◌, arith}
 use Rattle.std.specs.List.{AllZip}
 use Rattle.std.proofs.lemmas.List.Elements.{All-nil, All-cons, All-head, All-tail}
-use Rattle.std.proofs.lemmas.Int.{ints}
 use Rattle.std.proofs.Math.Nat.{mul-le-mul}
 use Rattle.ras_domain.specs.declared.region.Interval.{Interval}
 use Rattle.ras_domain.specs.Region.{HasSmallBounds, IsIn, IsOrdered, IsRegion, extent_of, points_of}
@@ -10,6 +9,7 @@ use Rattle.ras_domain.proofs.Points.{Contains-IsIn, length-points_of, length-fro
 use Rattle.ras_grid.specs.Grid.{AreFloors, IsGrid, IsParted, Meets, grid_box, grid_interval, place_along, place_box, places_meeting, tile_in, tile_place}
 use Rattle.ras_domain.specs.Boxes.{meet_of_axis, meet_of}
 use Rattle.ras_grid.proofs.Floors.{IsWithin, IsFloor-place_along, floors_agree, IsWithin-grid_interval, IsWithin-meet_of_axis, IsOrdered-common, places_along-ordered, places_along-small, places_along-few, meet_of_axis-small, meet_of_axis-few}
+use Rattle.ras_domain.proofs.PointSets.{IsIn-lows, IsOrdered-from_IsIn}
 
 -- the first extent of a grid, and the others
 grid_head : (e : ℕ) (es : List ℕ) → IsGrid (e ∷ es) → 1 ≤ e
@@ -96,34 +96,24 @@ IsIn-meet_of (a ∷ left) (b ∷ right) (c ∷ p) same =
       λ both. let h = here.1 ((both.0.0, both.0.1), (both.1.0, both.1.1)) in (h.0, h.1, rest.1 (both.0.2, both.1.2)),
     )
 
--- a box with a point is ordered
-pub ordered_from_IsIn : (axes : List Interval) (p : List ℤ) → IsIn p axes → All IsOrdered axes
-ordered_from_IsIn [] p within = All-nil IsOrdered
-ordered_from_IsIn (axis ∷ axes) [] within = absurd within
-ordered_from_IsIn (axis ∷ axes) (c ∷ p) within =
-    All-cons IsOrdered axis axes (omega (arith, ints, within.0, within.1)) (ordered_from_IsIn axes p within.2)
-
--- and an ordered one has a point
-pub IsIn-lows : (axes : List Interval) → All IsOrdered axes → IsIn (map (λ axis. axis.lo) axes) axes
-IsIn-lows [] ordered = tt
-IsIn-lows (axis ∷ axes) ordered =
-    (omega (arith, ints), All-head IsOrdered axis axes ordered, IsIn-lows axes (All-tail IsOrdered axis axes ordered))
-
 -- ---- the tiles that meet a box
 
 -- a tile meets a box exactly where what they have in common is ordered
-pub Meets-from_ordered : (es : List ℕ) (place : List ℤ) (axes : List Interval) → length place ≡ length es → length axes ≡ length es → All IsOrdered (tile_in es axes place) → Meets es place axes
+pub Meets-from_ordered : (es : List ℕ) (place : List ℤ) (axes : List Interval) → length place ≡ length es → length axes ≡ length es
+    → All IsOrdered (tile_in es axes place) → Meets es place axes
 Meets-from_ordered es place axes same long ordered =
-    let both = (IsIn-meet_of (grid_box es place) axes (map (λ axis. axis.lo) (tile_in es axes place)) (length-grid_box es place same ∙ sym long)).0 (IsIn-lows (tile_in es axes place) ordered) in
+    let both = (IsIn-meet_of (grid_box es place) axes (map (λ axis. axis.lo) (tile_in es axes place)) (length-grid_box es place same ∙ sym long)).0
+    (IsIn-lows (tile_in es axes place) ordered) in
     record { long = same; point = map (λ axis. axis.lo) (tile_in es axes place); in_tile = both.0; in_box = both.1 }
 
 pub ordered_from_Meets : (es : List ℕ) (place : List ℤ) (axes : List Interval) → length axes ≡ length es → Meets es place axes → All IsOrdered (tile_in es axes place)
 ordered_from_Meets es place axes long met =
-    ordered_from_IsIn (tile_in es axes place) met.point
+    IsOrdered-from_IsIn (tile_in es axes place) met.point
     ((IsIn-meet_of (grid_box es place) axes met.point (length-grid_box es place met.long ∙ sym long)).1 (met.in_tile, met.in_box))
 
 -- what a tile and a box have in common is ordered exactly where the tile's place is one of the box's places
-pub IsIn-place_box : (es : List ℕ) (place : List ℤ) (axes : List Interval) → IsGrid es → All IsOrdered axes → length place ≡ length es → length axes ≡ length es → All IsOrdered (tile_in es axes place) ↔ IsIn place (place_box es axes)
+pub IsIn-place_box : (es : List ℕ) (place : List ℤ) (axes : List Interval) → IsGrid es → All IsOrdered axes → length place ≡ length es → length axes ≡ length es
+    → All IsOrdered (tile_in es axes place) ↔ IsIn place (place_box es axes)
 IsIn-place_box [] [] [] grid ordered same long = (λ _. tt, λ _. All-nil IsOrdered)
 IsIn-place_box [] (q ∷ place) axes grid ordered same long = absurd (omega arith)
 IsIn-place_box [] [] (axis ∷ axes) grid ordered same long = absurd (omega arith)
@@ -144,7 +134,8 @@ length-place_box (e ∷ es) [] same = absurd (omega arith)
 length-place_box (e ∷ es) (axis ∷ axes) same = omega (arith, length-place_box es axes (omega arith))
 
 -- the places that are listed are those that meet the box
-pub places_meeting-Meets : (es : List ℕ) (axes : List Interval) (place : List ℤ) → IsGrid es → IsRegion axes → length axes ≡ length es → Contains (places_meeting es axes) place ↔ Meets es place axes
+pub places_meeting-Meets : (es : List ℕ) (axes : List Interval) (place : List ℤ) → IsGrid es → IsRegion axes → length axes ≡ length es
+    → Contains (places_meeting es axes) place ↔ Meets es place axes
 places_meeting-Meets es axes place grid region long =
     let listed = Contains-IsIn (place_box es axes) place in (
       λ has. let within = listed.0 has in
@@ -164,7 +155,8 @@ length-meet_of (a ∷ left) (b ∷ right) same = omega (arith, length-meet_of le
 pub length-tile_in : (es : List ℕ) (place : List ℤ) (axes : List Interval) → length place ≡ length es → length axes ≡ length es → length (tile_in es axes place) ≡ length axes
 length-tile_in es place axes same long = length-meet_of (grid_box es place) axes (length-grid_box es place same ∙ sym long)
 
-pub get_or-tile_in : (es : List ℕ) (place : List ℤ) (axes : List Interval) (k : ℕ) (d : Interval) → length place ≡ length es → length axes ≡ length es → k < length axes → get_or (tile_in es axes place) k d ≡ meet_of_axis (grid_interval (get_or es k 0) (get_or place k (pos 0))) (get_or axes k d)
+pub get_or-tile_in : (es : List ℕ) (place : List ℤ) (axes : List Interval) (k : ℕ) (d : Interval) → length place ≡ length es → length axes ≡ length es → k < length axes
+    → get_or (tile_in es axes place) k d ≡ meet_of_axis (grid_interval (get_or es k 0) (get_or place k (pos 0))) (get_or axes k d)
 get_or-tile_in [] place [] k d same long within = absurd (omega arith)
 get_or-tile_in [] place (axis ∷ axes) k d same long within = absurd (omega arith)
 get_or-tile_in (e ∷ es) [] axes k d same long within = absurd (omega arith)
@@ -251,7 +243,8 @@ IsRegion-tile_in es domain place region long met =
 -- ---- the tiles part a domain
 
 -- the points of a tile in a domain are those of the domain with its place
-pub IsIn-tile_in : (es : List ℕ) (domain : List Interval) (place p : List ℤ) → IsGrid es → length domain ≡ length es → length place ≡ length es → IsIn p (tile_in es domain place) ↔ (IsIn p domain × (tile_place es p ≡ place))
+pub IsIn-tile_in : (es : List ℕ) (domain : List Interval) (place p : List ℤ) → IsGrid es → length domain ≡ length es → length place ≡ length es
+    → IsIn p (tile_in es domain place) ↔ (IsIn p domain × (tile_place es p ≡ place))
 IsIn-tile_in es domain place p grid long same =
     let common = IsIn-meet_of (grid_box es place) domain p (length-grid_box es place same ∙ sym long) in (
       λ within. let both = common.0 within in (both.1, tile_place-from_IsIn es place p grid same both.0),
@@ -264,7 +257,8 @@ IsParted-domain es domain grid region long =
     let within = λ (p : List ℤ) (in_domain : IsIn p domain). length-from_IsIn p domain in_domain ∙ long in
     record {
       inside = λ place p has in_tile. ((IsIn-tile_in es domain place p grid long (same place has)).0 in_tile).0;
-      listed = λ p in_domain. (places_meeting-Meets es domain (tile_place es p) grid region long).1 (record { long = length-tile_place es p (within p in_domain); point = p; in_tile = IsIn-grid_box es p grid (within p in_domain); in_box = in_domain });
+      listed = λ p in_domain. (places_meeting-Meets es domain (tile_place es p) grid region long).1
+          (record { long = length-tile_place es p (within p in_domain); point = p; in_tile = IsIn-grid_box es p grid (within p in_domain); in_box = in_domain });
       covered = λ p in_domain. (IsIn-tile_in es domain (tile_place es p) p grid long (length-tile_place es p (within p in_domain))).1 (in_domain, refl);
       once = λ place p has in_tile. sym ((IsIn-tile_in es domain place p grid long (same place has)).0 in_tile).1;
     }

@@ -5,6 +5,7 @@ ghost use Rattle.std.specs.List.Sorted.{IsStrictlySortedBy};
 ghost use Rattle.std.specs.Cmp.Lexicographic.{slice_cmp};
 ghost use Rattle.ras_domain.specs.declared.region.Interval.{Interval};
 ghost use Rattle.ras_domain.specs.Region.{IsIn, IsRegion, points_of};
+ghost use Rattle.ras_grid.specs.Runs.{AreConsecutive, items_in};
 ghost use Rattle.ras_grid.specs.Grid.{AreFloors, IsGrid, IsParted, Meets, grid_box, places_meeting, tile_in, tile_place};
 
 /// The place of a point is the floor of its coordinates divided by the extents, and nothing else is.
@@ -51,4 +52,10 @@ pub fn tiles_are_regions()
 pub fn tiles_part_a_domain()
     ensures { (extents : List ℕ) (domain : List Interval) → IsGrid extents → IsRegion domain
         → length domain ≡ length extents → IsParted extents domain }
+{}
+
+/// A row of runs of a list's places parts the list: the items in the runs, one run after another,
+/// are the list again.
+pub fn rows_part_a_list<T>()
+    ensures { (xs : List T) (runs : List (ℕ × ℕ)) → AreConsecutive 0 runs (length xs) → items_in xs runs ≡ xs }
 {}

@@ -2,7 +2,7 @@
 ghost use Rattle.std.specs.Prelude.{◌≡◌};
 ghost use Rattle.ras_grid.specs.Grid.{IsGrid};
 
-use crate::{Extents, count_meeting, tile_box, tile_of, tiles_meeting};
+use crate::{Extents, count_meeting, cut, tile_box, tile_of, tiles_meeting};
 use ras_domain::{Interval, MAX_AXES, Point, Region};
 use std::alloc::{AllocError, Global};
 use std::process::Abort;
@@ -159,6 +159,64 @@ fn many_tiles_are_counted(rt: HostRuntime) -> Result<(), Fail> {
         let extents = extents_of(&rt, numbers);
         assert!(rt; region.axes().len() == extents.len());
         assert_eq!(rt; count_meeting(&region, &extents), want, "of {pairs:?}");
+    }
+    Ok(())
+}
+
+#[test]
+fn many_tiles_are_listed(rt: HostRuntime) -> Result<(), Fail> {
+    let region = region_of(rt.alloc(), &[(0, 4095), (-4096, -1)])?;
+    let extents = extents_of(&rt, &[64, 64]);
+    assert!(rt; region.axes().len() == extents.len());
+    let tiles = tiles_meeting(rt.alloc(), &region, &extents)?;
+    assert_eq!(rt; tiles.len(), 4096);
+    let cases: [(usize, [i64; 2]); 4] = [
+        (0, [0, -64]),
+        (63, [0, -1]),
+        (64, [1, -64]),
+        (4095, [63, -1]),
+    ];
+    for (k, want) in cases {
+        assert_eq!(rt;
+            tiles.get(k).map(|tile| tile.as_slice()),
+            Some(want.as_slice()),
+            "at {k}"
+        );
+    }
+    Ok(())
+}
+
+/// Runs for so many workers; the lengths differ by at most one.
+#[test]
+fn longer_runs_come_first(rt: HostRuntime) -> Result<(), Fail> {
+    let half = 9_223_372_036_854_775_808;
+    let cases: [(usize, u32, &[(usize, usize)]); 9] = [
+        (0, 1, &[]),
+        (0, 64, &[]),
+        (1, 1, &[(0, 1)]),
+        (7, 1, &[(0, 7)]),
+        (2, 64, &[(0, 1), (1, 2)]),
+        (4, 2, &[(0, 2), (2, 4)]),
+        (10, 3, &[(0, 4), (4, 7), (7, 10)]),
+        (11, 4, &[(0, 3), (3, 6), (6, 9), (9, 11)]),
+        (usize::MAX, 2, &[(0, half), (half, usize::MAX)]),
+    ];
+    for (len, workers, want) in cases {
+        let runs = cut(rt.alloc(), len, workers.max(1))?;
+        assert_eq!(rt; runs.as_slice(), want, "of {len} for {workers}");
+    }
+    Ok(())
+}
+
+/// Of 5000 places for 4000 workers the first thousand runs hold two.
+#[test]
+fn thousands_of_runs_are_cut(rt: HostRuntime) -> Result<(), Fail> {
+    let runs = cut(rt.alloc(), 5000, 4000)?;
+    assert_eq!(rt; runs.len(), 4000);
+    for (i, run) in runs.iter().enumerate() {
+        let from = i + i.min(1000);
+        let to = from + if i < 1000 { 2 } else { 1 };
+        assert_eq!(rt; *run, (from, to));
     }
     Ok(())
 }

@@ -21,7 +21,8 @@ module _ {V : Type 0} (C : V → V → Type 0) where
   sorted-copies slots copies all sorted = subst (IsStrictlySortedBy row_major) (sym (places_of-copies slots copies all)) sorted
 
   -- an entry beside its copy
-  clones-before : (p q : List ℤ) (w x : Option V) (es ds : List (List ℤ × V)) → q ≡ p → MatchOption w (x ≡ None) (λ v. IsSomeAnd x (C v)) → AllZip (λ e d. (d.0 ≡ e.0) × C e.1 d.1) es ds → AllZip (λ e d. (d.0 ≡ e.0) × C e.1 d.1) (before p w es) (before q x ds)
+  clones-before : (p q : List ℤ) (w x : Option V) (es ds : List (List ℤ × V)) → q ≡ p → MatchOption w (x ≡ None) (λ v. IsSomeAnd x (C v))
+      → AllZip (λ e d. (d.0 ≡ e.0) × C e.1 d.1) es ds → AllZip (λ e d. (d.0 ≡ e.0) × C e.1 d.1) (before p w es) (before q x ds)
   clones-before p q None None es ds same clone rest = rest
   clones-before p q None (Some u) es ds same clone rest = absurd (cc)
   clones-before p q (Some v) None es ds same clone rest = absurd clone

@@ -21,7 +21,8 @@ apart exact q p other Greater is = ap is_eq is
 
 module _ {K X : Type 0} {R : K → K → Ordering} (o : IsTotalOrder R) (exact : CmpEqualImpliesEq R) where
   -- one step of a put, by how the key stands to the first entry's
-  put_step : (r : Ordering) (p : K) (v : X) (e : K × X) (es : List (K × X)) → R p e.0 ≡ r → lookup (is_at (R p)) (insert_entry R es p v) ≡ Some v → lookup (is_at (R p)) (match_ordering r ((p, v) ∷ e ∷ es) ((e.0, v) ∷ es) (e ∷ insert_entry R es p v)) ≡ Some v
+  put_step : (r : Ordering) (p : K) (v : X) (e : K × X) (es : List (K × X)) → R p e.0 ≡ r → lookup (is_at (R p)) (insert_entry R es p v) ≡ Some v
+      → lookup (is_at (R p)) (match_ordering r ((p, v) ∷ e ∷ es) ((e.0, v) ∷ es) (e ∷ insert_entry R es p v)) ≡ Some v
   put_step Less p v e es is rest = ap (λ s. cond (is_eq s) (Some v) (lookup (is_at (R p)) (e ∷ es))) (tied_itself o p)
   put_step Equal p v e es is rest = ap (λ s. cond (is_eq s) (Some v) (lookup (is_at (R p)) es)) is
   put_step Greater p v e es is rest = ap (λ s. cond (is_eq s) (Some e.1) (lookup (is_at (R p)) (insert_entry R es p v))) is ∙ rest
@@ -31,7 +32,9 @@ module _ {K X : Type 0} {R : K → K → Ordering} (o : IsTotalOrder R) (exact :
   lookup-put [] p v = ap (λ s. cond (is_eq s) (Some v) None) (tied_itself o p)
   lookup-put (e ∷ es) p v = put_step (R p e.0) p v e es refl (lookup-put es p v)
 
-  put_other : (r : Ordering) (p q : K) (v : X) (e : K × X) (es : List (K × X)) → R p e.0 ≡ r → ¬ (q ≡ p) → lookup (is_at (R q)) (insert_entry R es p v) ≡ lookup (is_at (R q)) es → lookup (is_at (R q)) (match_ordering r ((p, v) ∷ e ∷ es) ((e.0, v) ∷ es) (e ∷ insert_entry R es p v)) ≡ lookup (is_at (R q)) (e ∷ es)
+  put_other : (r : Ordering) (p q : K) (v : X) (e : K × X) (es : List (K × X)) → R p e.0 ≡ r → ¬ (q ≡ p)
+      → lookup (is_at (R q)) (insert_entry R es p v) ≡ lookup (is_at (R q)) es
+      → lookup (is_at (R q)) (match_ordering r ((p, v) ∷ e ∷ es) ((e.0, v) ∷ es) (e ∷ insert_entry R es p v)) ≡ lookup (is_at (R q)) (e ∷ es)
   put_other Less p q v e es is other rest = ap (λ b. cond b (Some v) (lookup (is_at (R q)) (e ∷ es))) (apart exact q p other (R q p) refl)
   put_other Equal p q v e es is other rest =
       let none : is_at (R q) e.0 ≡ false = ap (is_at (R q)) (sym (exact p e.0 is)) ∙ apart exact q p other (R q p) refl in

@@ -1,16 +1,16 @@
 -- What the entries of a vector of slots are after one slot is read or written.
-use Rattle.std.proofs.Common.{◌≡◌, ℕ, zero, suc, ◌<◌, ℤ, false, cond, List, [], ◌∷◌, ◌++◌, map, take, drop, ◌≤◌, length, get_or, Contains, Option, Some, None, inl, inr, refl, sym, subst, ap, ◌∙◌, arith}
+use Rattle.std.proofs.Common.{◌≡◌, ℕ, zero, suc, ◌<◌, ℤ, false, cond, List, [], ◌∷◌, length, get_or, Contains, Option, Some, None, inl, inr, refl, sym, subst, ap, ◌∙◌, arith}
 use Rattle.std.specs.Cmp.{IsTotalOrder}
 use Rattle.std.specs.Cmp.Lexicographic.{slice_cmp}
-use Rattle.std.specs.List.{AllByRecursion, AllWithin, slice_get, slice_set, cons_option}
+use Rattle.std.specs.List.{AllByRecursion, slice_get, slice_set, cons_option}
 use Rattle.std.specs.List.Sorted.{IsStrictlySortedBy}
 use Rattle.std.specs.Map.{keys_of, lookup, remove_entry}
 use Rattle.std.specs.BTreeMap.{insert_entry, is_at}
 use Rattle.std.specs.Option.{option_map}
 use Rattle.std.specs.Prelude.{Result, Ok, IfOk}
-use Rattle.std.specs.Ordering.{int_cmp, is_eq, ordering_reverse, ordering_then, match_ordering}
+use Rattle.std.specs.Ordering.{int_cmp, is_eq, ordering_reverse, match_ordering}
 use Rattle.std.specs.declared.cmp.Ordering.{Ordering}
-use Rattle.std.specs.declared.cmp.Ordering.TheVariants.{Less, Equal, Greater}
+use Rattle.std.specs.declared.cmp.Ordering.TheVariants.{Less}
 use Rattle.std.proofs.lemmas.Option.{slice_get-map, slice_get_within, slice_get_read, same_Some}
 use Rattle.std.proofs.lemmas.List.{length-map}
 use Rattle.std.proofs.lemmas.Cmp.{tied_itself, int_cmp_total, lists_total}
@@ -19,17 +19,13 @@ use Rattle.std.proofs.lemmas.Map.Lookups.{CmpEqualImpliesEq, exact_signed}
 use Rattle.ras_index.specs.declared.slot.Slot.{Slot}
 use Rattle.ras_index.specs.Index.{row_major, IsReady}
 use Rattle.ras_index.specs.Slots.{places_of, entries_of, index_of}
+use Rattle.law_lists.proofs.Each.{each_weaker, each_found}
+use Rattle.law_lists.proofs.Orders.{both_equal}
 
 -- ---- the order
 
 pub row_major_total : IsTotalOrder row_major
 row_major_total = lists_total int_cmp_total
-
--- two answers that tie together tie each
-then_ties : (a b : Ordering) → ordering_then a b ≡ Equal → (a ≡ Equal) × (b ≡ Equal)
-then_ties Less b tie = absurd (cc)
-then_ties Equal b tie = (refl, tie)
-then_ties Greater b tie = absurd (cc)
 
 -- places that tie are one place
 pub row_major_exact : CmpEqualImpliesEq row_major
@@ -37,44 +33,10 @@ row_major_exact [] [] tie = refl
 row_major_exact [] (d ∷ q) tie = absurd (cc)
 row_major_exact (c ∷ p) [] tie = absurd (cc)
 row_major_exact (c ∷ p) (d ∷ q) tie =
-    let both = then_ties (int_cmp c d) (slice_cmp int_cmp p q) tie in
+    let both = both_equal (int_cmp c d) (slice_cmp int_cmp p q) tie in
     ap (λ e. e ∷ p) (exact_signed c d both.0) ∙ ap (λ r. d ∷ r) (row_major_exact p q both.1)
 
 -- ---- what holds of each element
-
--- the element at a place
-pub AllByRecursion-slice_get : {X : Type 0} (P : X → Type 0) (xs : List X) (i : ℕ) (x : X) → AllByRecursion P xs → slice_get xs i ≡ Some x → P x
-AllByRecursion-slice_get P [] i x all is = absurd (cc)
-AllByRecursion-slice_get P (y ∷ ys) zero x all is = let same : y ≡ x = cc in subst P same all.0
-AllByRecursion-slice_get P (y ∷ ys) (suc i) x all is = AllByRecursion-slice_get P ys i x all.1 is
-
--- of two lists, joined
-pub AllByRecursion-append : {X : Type 0} (P : X → Type 0) (xs ys : List X) → AllByRecursion P xs → AllByRecursion P ys → AllByRecursion P (xs ++ ys)
-AllByRecursion-append P [] ys front back = back
-AllByRecursion-append P (x ∷ xs) ys front back = (front.0, AllByRecursion-append P xs ys front.1 back)
-
--- of each element as f leaves it
-pub AllByRecursion-map : {X Y : Type 0} (P : X → Type 0) (Q : Y → Type 0) (f : X → Y) → ((x : X) → P x → Q (f x)) → (xs : List X) → AllByRecursion P xs → AllByRecursion Q (map f xs)
-AllByRecursion-map P Q f gives [] all = tt
-AllByRecursion-map P Q f gives (x ∷ xs) all = (gives x all.0, AllByRecursion-map P Q f gives xs all.1)
-
--- of each element before a place
-pub AllByRecursion-take : {X : Type 0} (P : X → Type 0) (xs : List X) (i : ℕ) → AllWithin P xs 0 i → i ≤ length xs → AllByRecursion P (take i xs)
-AllByRecursion-take P xs zero all within = tt
-AllByRecursion-take P [] (suc i) all within = tt
-AllByRecursion-take P (x ∷ xs) (suc i) all within =
-    (all 0 x (omega arith) (omega arith), AllByRecursion-take P xs i (λ k d low high. all (suc k) d (omega arith) (omega arith)) (omega arith))
-
--- of each element from a place on
-pub AllByRecursion-drop : {X : Type 0} (P : X → Type 0) (xs : List X) (i : ℕ) → AllWithin P xs i (length xs) → AllByRecursion P (drop i xs)
-AllByRecursion-drop P xs zero all = recursion_from_All P xs (λ k d within. all k d (omega arith) within)
-AllByRecursion-drop P [] (suc i) all = tt
-AllByRecursion-drop P (x ∷ xs) (suc i) all = AllByRecursion-drop P xs i (λ k d low high. all (suc k) d (omega arith) (omega arith))
-
--- a fact that follows
-pub AllByRecursion-weaker : {X : Type 0} (P Q : X → Type 0) → ((x : X) → P x → Q x) → (xs : List X) → AllByRecursion P xs → AllByRecursion Q xs
-AllByRecursion-weaker P Q gives [] all = tt
-AllByRecursion-weaker P Q gives (x ∷ xs) all = (gives x all.0, AllByRecursion-weaker P Q gives xs all.1)
 
 -- ---- places below one another are apart
 
@@ -119,7 +81,8 @@ module _ {V : Type 0} where
   places-set (x ∷ xs) (suc i) s at = ap (λ ps. x.place.items ∷ ps) (places-set xs i s at)
 
   module _ (R : List ℤ → List ℤ → Ordering) where
-    sorted-before : (p : List ℤ) (w : Option V) (es : List (List ℤ × V)) → AllByRecursion (λ q. R p q ≡ Less) (keys_of es) → IsStrictlySortedBy R (keys_of es) → IsStrictlySortedBy R (keys_of (before p w es))
+    sorted-before : (p : List ℤ) (w : Option V) (es : List (List ℤ × V)) → AllByRecursion (λ q. R p q ≡ Less) (keys_of es) → IsStrictlySortedBy R (keys_of es)
+        → IsStrictlySortedBy R (keys_of (before p w es))
     unfolding IsStrictlySortedBy
     sorted-before p None es above sorted = sorted
     sorted-before p (Some v) es above sorted = (above, sorted)
@@ -146,7 +109,8 @@ module _ {V : Type 0} where
     remove-before p q None es apart = refl
     remove-before p q (Some v) es apart = ap (λ b. cond b es ((p, v) ∷ remove_entry (is_at (R q)) es)) apart
 
-    pub remove-absent : (slots : List (Slot V)) (q : List ℤ) → AllByRecursion (λ p. is_at (R q) p ≡ false) (places_of slots) → remove_entry (is_at (R q)) (entries_of slots) ≡ entries_of slots
+    pub remove-absent : (slots : List (Slot V)) (q : List ℤ) → AllByRecursion (λ p. is_at (R q) p ≡ false) (places_of slots)
+        → remove_entry (is_at (R q)) (entries_of slots) ≡ entries_of slots
     remove-absent [] q absent = refl
     remove-absent (x ∷ xs) q absent =
         remove-before x.place.items q x.value (entries_of xs) absent.0 ∙ ap (λ es. before x.place.items x.value es) (remove-absent xs q absent.1)
@@ -155,14 +119,15 @@ module _ {V : Type 0} where
 
   module _ {R : List ℤ → List ℤ → Ordering} (o : IsTotalOrder R) where
     none_above : (p : List ℤ) (slots : List (Slot V)) → AllByRecursion (λ q. R p q ≡ Less) (places_of slots) → AllByRecursion (λ q. is_at (R p) q ≡ false) (places_of slots)
-    none_above p slots above = AllByRecursion-weaker (λ q. R p q ≡ Less) (λ q. is_at (R p) q ≡ false) (above_apart R p) (places_of slots) above
+    none_above p slots above = each_weaker (λ q. R p q ≡ Less) (λ q. is_at (R p) q ≡ false) (above_apart R p) (places_of slots) above
 
     lookup-here : (p : List ℤ) (w : Option V) (es : List (List ℤ × V)) → lookup (is_at (R p)) es ≡ None → lookup (is_at (R p)) (before p w es) ≡ w
     lookup-here p None es none = none
     lookup-here p (Some v) es none = ap (λ r. cond (is_eq r) (Some v) (lookup (is_at (R p)) es)) (tied_itself o p)
 
     -- the value that a slot holds is the one at its place
-    pub lookup-at : (slots : List (Slot V)) (i : ℕ) (s : Slot V) → IsStrictlySortedBy R (places_of slots) → slice_get slots i ≡ Some s → lookup (is_at (R s.place.items)) (entries_of slots) ≡ s.value
+    pub lookup-at : (slots : List (Slot V)) (i : ℕ) (s : Slot V) → IsStrictlySortedBy R (places_of slots) → slice_get slots i ≡ Some s
+        → lookup (is_at (R s.place.items)) (entries_of slots) ≡ s.value
     unfolding IsStrictlySortedBy
     lookup-at [] i s sorted at = absurd (cc)
     lookup-at (x ∷ xs) zero s sorted at =
@@ -170,7 +135,8 @@ module _ {V : Type 0} where
         subst (λ y. lookup (is_at (R y.place.items)) (entries_of (x ∷ xs)) ≡ y.value) same
         (lookup-here x.place.items x.value (entries_of xs) (lookup-absent R xs x.place.items (none_above x.place.items xs sorted.0)))
     lookup-at (x ∷ xs) (suc i) s sorted at =
-        let less : R x.place.items s.place.items ≡ Less = AllByRecursion-slice_get (λ q. R x.place.items q ≡ Less) (places_of xs) i s.place.items sorted.0 (slice_get-map (λ slot. slot.place.items) xs i ∙ ap (option_map (λ slot. slot.place.items)) at) in
+        let less : R x.place.items s.place.items ≡ Less = each_found (λ q. R x.place.items q ≡ Less) (places_of xs) i s.place.items sorted.0
+        (slice_get-map (λ slot. slot.place.items) xs i ∙ ap (option_map (λ slot. slot.place.items)) at) in
         lookup-before R x.place.items s.place.items x.value (entries_of xs) (below_apart o x.place.items s.place.items less) ∙ lookup-at xs i s sorted.1 at
 
     -- a value in a slot is put at its place
@@ -184,7 +150,8 @@ module _ {V : Type 0} where
     put-before p q v (Some u) es less =
         ap (λ r. match_ordering r ((q, v) ∷ (p, u) ∷ es) ((p, v) ∷ es) ((p, u) ∷ insert_entry R es q v)) (o.antisymm q p ∙ ap ordering_reverse less)
 
-    pub put-at : (slots : List (Slot V)) (i : ℕ) (s : Slot V) (v : V) → IsStrictlySortedBy R (places_of slots) → slice_get (places_of slots) i ≡ Some s.place.items → s.value ≡ Some v → entries_of (slice_set slots i s) ≡ insert_entry R (entries_of slots) s.place.items v
+    pub put-at : (slots : List (Slot V)) (i : ℕ) (s : Slot V) (v : V) → IsStrictlySortedBy R (places_of slots) → slice_get (places_of slots) i ≡ Some s.place.items
+        → s.value ≡ Some v → entries_of (slice_set slots i s) ≡ insert_entry R (entries_of slots) s.place.items v
     unfolding IsStrictlySortedBy
     put-at [] i s v sorted at is = absurd (cc)
     put-at (x ∷ xs) zero s v sorted at is =
@@ -193,7 +160,7 @@ module _ {V : Type 0} where
         ∙ sym (subst (λ p. insert_entry R (before x.place.items x.value (entries_of xs)) p v ≡ (p, v) ∷ entries_of xs) same
         (put-here x.place.items v x.value (entries_of xs) (AllByRecursion-entries (λ q. R x.place.items q ≡ Less) xs sorted.0)))
     put-at (x ∷ xs) (suc i) s v sorted at is =
-        let less : R x.place.items s.place.items ≡ Less = AllByRecursion-slice_get (λ q. R x.place.items q ≡ Less) (places_of xs) i s.place.items sorted.0 at in
+        let less : R x.place.items s.place.items ≡ Less = each_found (λ q. R x.place.items q ≡ Less) (places_of xs) i s.place.items sorted.0 at in
         ap (λ es. before x.place.items x.value es) (put-at xs i s v sorted.1 at is)
         ∙ sym (put-before x.place.items s.place.items v x.value (entries_of xs) less)
 
@@ -202,7 +169,8 @@ module _ {V : Type 0} where
     remove-here p None es none = none
     remove-here p (Some v) es none = ap (λ r. cond (is_eq r) es ((p, v) ∷ remove_entry (is_at (R p)) es)) (tied_itself o p)
 
-    pub remove-at : (slots : List (Slot V)) (i : ℕ) (s : Slot V) → IsStrictlySortedBy R (places_of slots) → slice_get (places_of slots) i ≡ Some s.place.items → s.value ≡ None → entries_of (slice_set slots i s) ≡ remove_entry (is_at (R s.place.items)) (entries_of slots)
+    pub remove-at : (slots : List (Slot V)) (i : ℕ) (s : Slot V) → IsStrictlySortedBy R (places_of slots) → slice_get (places_of slots) i ≡ Some s.place.items
+        → s.value ≡ None → entries_of (slice_set slots i s) ≡ remove_entry (is_at (R s.place.items)) (entries_of slots)
     unfolding IsStrictlySortedBy
     remove-at [] i s sorted at is = absurd (cc)
     remove-at (x ∷ xs) zero s sorted at is =
@@ -211,7 +179,7 @@ module _ {V : Type 0} where
         ∙ sym (subst (λ p. remove_entry (is_at (R p)) (before x.place.items x.value (entries_of xs)) ≡ entries_of xs) same
         (remove-here x.place.items x.value (entries_of xs) (remove-absent R xs x.place.items (none_above x.place.items xs sorted.0))))
     remove-at (x ∷ xs) (suc i) s sorted at is =
-        let less : R x.place.items s.place.items ≡ Less = AllByRecursion-slice_get (λ q. R x.place.items q ≡ Less) (places_of xs) i s.place.items sorted.0 at in
+        let less : R x.place.items s.place.items ≡ Less = each_found (λ q. R x.place.items q ≡ Less) (places_of xs) i s.place.items sorted.0 at in
         ap (λ es. before x.place.items x.value es) (remove-at xs i s sorted.1 at is)
         ∙ sym (remove-before R x.place.items s.place.items x.value (entries_of xs) (below_apart o x.place.items s.place.items less))
 
@@ -223,7 +191,8 @@ module _ {V : Type 0} where
   within-slots slots i p at = omega (arith, slice_get_within (places_of slots) i p at, length-map slots (λ slot. slot.place.items))
 
   -- a search in the slots, seen as a slice, that answers an index
-  pub found-index : (slice slots : List (Slot V)) (p : List ℤ) (r : Result ℕ ℕ) (i : ℕ) → slice ≡ slots → r ≡ Ok i → IfOk r (λ k. slice_get (places_of slice) k ≡ Some p) → slice_get (places_of slots) i ≡ Some p
+  pub found-index : (slice slots : List (Slot V)) (p : List ℤ) (r : Result ℕ ℕ) (i : ℕ) → slice ≡ slots → r ≡ Ok i
+      → IfOk r (λ k. slice_get (places_of slice) k ≡ Some p) → slice_get (places_of slots) i ≡ Some p
   found-index slice slots p r i same is found =
       subst (λ xs. slice_get (places_of xs) i ≡ Some p) same (subst (λ s. IfOk s (λ k. slice_get (places_of slice) k ≡ Some p)) is found)
 
@@ -234,12 +203,14 @@ module _ {V : Type 0} where
       same_Some s.place.items p (sym (slice_get-map (λ slot. slot.place.items) slots i ∙ ap (option_map (λ slot. slot.place.items)) here) ∙ at)
 
   -- its value is the one at the place
-  pub value-read : (slots : List (Slot V)) (i : ℕ) (p : List ℤ) (s : Slot V) → IsStrictlySortedBy row_major (places_of slots) → slice_get (places_of slots) i ≡ Some p → s ≡ get_or slots i s → lookup (is_at (row_major p)) (entries_of slots) ≡ s.value
+  pub value-read : (slots : List (Slot V)) (i : ℕ) (p : List ℤ) (s : Slot V) → IsStrictlySortedBy row_major (places_of slots) → slice_get (places_of slots) i ≡ Some p
+      → s ≡ get_or slots i s → lookup (is_at (row_major p)) (entries_of slots) ≡ s.value
   value-read slots i p s sorted at is =
       let here : slice_get slots i ≡ Some s = slice_get_read slots (length slots) i s refl (within-slots slots i p at) is in
       subst (λ q. lookup (is_at (row_major q)) (entries_of slots) ≡ s.value) (place-read slots i p s at is) (lookup-at row_major_total slots i s sorted here)
 
-  module _ (slots : List (Slot V)) (i : ℕ) (p : List ℤ) (t : Slot V) (sorted : IsStrictlySortedBy row_major (places_of slots)) (at : slice_get (places_of slots) i ≡ Some p) (place : t.place.items ≡ p) where
+  module _ (slots : List (Slot V)) (i : ℕ) (p : List ℤ) (t : Slot V) (sorted : IsStrictlySortedBy row_major (places_of slots))
+      (at : slice_get (places_of slots) i ≡ Some p) (place : t.place.items ≡ p) where
     at_new : slice_get (places_of slots) i ≡ Some t.place.items
     at_new = at ∙ ap Some (sym place)
 

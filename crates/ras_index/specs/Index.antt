@@ -1,5 +1,5 @@
 -- An index of tiles: a finite map from places to values, and the places that are ready for a value.
-use Rattle.std.specs.Prelude.{ℤ, Bool, true, false, ◌&&◌, List, [], ◌∷◌, ◌⊎◌, Contains, Option, refl, int_le, filter}
+use Rattle.std.specs.Prelude.{ℤ, List, ◌⊎◌, Contains, Option, refl, filter}
 use Rattle.std.specs.Cmp.Lexicographic.{slice_cmp}
 use Rattle.std.specs.Coded.{Coded, code_by, coded×, coded_list, coded_ℤ}
 use Rattle.std.specs.Map.{keys_of, lookup}
@@ -7,6 +7,7 @@ use Rattle.std.specs.BTreeMap.{is_at}
 use Rattle.std.specs.Ordering.{int_cmp}
 use Rattle.std.specs.declared.cmp.Ordering.{Ordering}
 use Rattle.ras_domain.specs.declared.region.Interval.{Interval}
+use Rattle.ras_domain.specs.Region.{is_in}
 
 -- row-major order compares places from the first axis on
 abbrev pub row_major : List ℤ → List ℤ → Ordering
@@ -30,13 +31,6 @@ value_at entries place = lookup (is_at (row_major place)) entries
 -- a value put here takes no memory: the place has one already, or was made ready
 abbrev pub IsReady : {V : Type 0} → Index V → List ℤ → Type 0
 IsReady index place = Contains (keys_of index.entries) place ⊎ Contains index.ready place
-
--- whether a place has one coordinate from each interval of a box, and no other
-abbrev pub is_in : List ℤ → List Interval → Bool
-is_in [] [] = true
-is_in (c ∷ place) (axis ∷ axes) = int_le axis.lo c && int_le c axis.hi && is_in place axes
-is_in [] (axis ∷ axes) = false
-is_in (c ∷ place) [] = false
 
 -- the places in a box that have a value, in order
 abbrev pub places_in : {V : Type 0} → List Interval → List (List ℤ × V) → List (List ℤ)

@@ -1,16 +1,9 @@
 //! Laws of the definitions, each the contract of a function that does nothing.
-ghost use Rattle.std.specs.Prelude.{List, ℤ, ◌≡◌, ◌↔◌, IsTrue, Some, None};
+ghost use Rattle.std.specs.Prelude.{List, ℤ, ◌≡◌, Some, None};
 ghost use Rattle.std.specs.List.Sorted.{IsStrictlySortedBy};
 ghost use Rattle.std.specs.Map.{keys_of, remove_entry};
 ghost use Rattle.std.specs.BTreeMap.{insert_entry, is_at};
-ghost use Rattle.ras_domain.specs.declared.region.Interval.{Interval};
-ghost use Rattle.ras_domain.specs.Region.{IsIn};
-ghost use Rattle.ras_index.specs.Index.{row_major, value_at, is_in};
-
-/// The test for the places in a box is right.
-pub fn is_in_says_what_is_in()
-    ensures { (place : List ℤ) (box : List Interval) → IsTrue (is_in place box) ↔ IsIn place box }
-{}
+ghost use Rattle.ras_index.specs.Index.{row_major, value_at};
 
 /// After a value is put at a place, it is the one there, and every other place has what it had.
 pub fn a_put_changes_one_place<V>()

@@ -2,7 +2,7 @@
 ghost use Rattle.std.specs.Prelude.{◌≡◌};
 
 use crate::TileIndex;
-use crate::laws::{a_put_changes_one_place, a_removal_changes_one_place, is_in_says_what_is_in};
+use crate::laws::{a_put_changes_one_place, a_removal_changes_one_place};
 use ras_domain::{Interval, Point, Region};
 use std::alloc::{AllocError, Global};
 use std::test::Fail;
@@ -159,7 +159,41 @@ fn places_are_made_ready_and_a_copy_has_the_values(rt: HostRuntime) -> Result<()
 
 #[test]
 fn the_laws_are_called() {
-    is_in_says_what_is_in();
     a_put_changes_one_place::<u32>();
     a_removal_changes_one_place::<u32>();
+}
+
+#[test]
+fn many_places_take_values(rt: HostRuntime) -> Result<(), Fail> {
+    let mut places = Vec::new(rt.alloc());
+    for row in 0..60i64 {
+        for column in -49..1i64 {
+            places.push(point_of([row, column]))?;
+        }
+    }
+    let mut index = TileIndex::new(rt.alloc());
+    index.reserve_for(rt.alloc(), places.as_slice())?;
+    for value in 0..3_000u32 {
+        let place = [59 - i64::from(value / 50), i64::from(value % 50) - 49];
+        assert_eq!(rt; set(rt.alloc(), &mut index, place, value)?, None);
+    }
+    let copy = index.try_clone(rt.alloc())?;
+    let cases: [(Place, u32); 4] = [
+        ([59, -49], 0),
+        ([59, 0], 49),
+        ([0, -49], 2_950),
+        ([0, 0], 2_999),
+    ];
+    for (place, want) in cases {
+        assert_eq!(rt;
+            copy.get(&point_of(place)).copied(),
+            Some(want),
+            "{place:?}"
+        );
+    }
+    assert_eq!(rt;
+        copy.in_box(rt.alloc(), &box_of((0, 59), (-49, 0))?)?.len(),
+        3_000
+    );
+    Ok(())
 }

@@ -2,6 +2,7 @@
 use Rattle.std.specs.Prelude.{◌≡◌, ◌≤◌, ◌*◌, ℕ, ℤ, min, Bool, true, false, List, [], ◌∷◌, length, take, drop, All}
 use Rattle.ras_cells.specs.declared.cell.Cell.{Cell}
 use Rattle.ras_cells.specs.declared.cell.Cell.TheVariants.{Null, Value}
+use Rattle.ras_cells.specs.declared.TheConstants.{MAX_COMPONENTS}
 
 -- how many numbers a cell has that isn't null, the cells in order, and how many cells there is room for
 pub record Cells : Type 0 where
@@ -18,7 +19,7 @@ HasWidth width (Value numbers) = length numbers.items ≡ width
 
 -- how many numbers are kept for each cell. No cell has more than 8
 abbrev pub stride_of : ℕ → ℕ
-stride_of width = min width 8
+stride_of width = min width MAX_COMPONENTS
 
 -- the cell of these kept numbers, where it isn't null
 abbrev pub cell_from : Bool → List ℤ → Cell

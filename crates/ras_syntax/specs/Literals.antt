@@ -19,43 +19,43 @@ abbrev pub if_there : Option Bool → Bool
 if_there None = true
 if_there (Some fits) = fits
 
-abbrev pub axis_step : Axis-F Bool Bool Bool Bool → Bool
-axis_step (Axis-F.At e) = e
-axis_step (Axis-F.Trim a b) = if_there a && if_there b
+abbrev pub axis_fits : Axis-F Bool Bool Bool Bool → Bool
+axis_fits (Axis-F.At e) = e
+axis_fits (Axis-F.Trim a b) = if_there a && if_there b
 
-abbrev pub domain_step : DomainExpr-F Bool Bool Bool Bool → Bool
-domain_step (DomainExpr-F.Literal ps) = pairs_fit ps
-domain_step (DomainExpr-F.«DomainExpr::Sdom» e) = e
+abbrev pub domain_fits : DomainExpr-F Bool Bool Bool Bool → Bool
+domain_fits (DomainExpr-F.Literal ps) = pairs_fit ps
+domain_fits (DomainExpr-F.«DomainExpr::Sdom» e) = e
 
-abbrev pub form_step : ExprForm-F Bool Bool Bool Bool → Bool
-form_step (ExprForm-F.Bool b) = true
-form_step (ExprForm-F.Number value atom) = is_in_range atom value
-form_step (ExprForm-F.Name name) = true
-form_step (ExprForm-F.Unary op e) = e
-form_step (ExprForm-F.Cast to e) = e
-form_step (ExprForm-F.Binary op a b) = a && b
-form_step (ExprForm-F.Index e axes) = e && all_fit axes
-form_step (ExprForm-F.Part e part) = e
-form_step (ExprForm-F.Case arms other) = pairs_fit arms && other
-form_step (ExprForm-F.Build es) = all_fit es
-form_step (ExprForm-F.Marray x domain e) = domain && e
-form_step (ExprForm-F.Condense op x domain cond e) = domain && (if_there cond && e)
-form_step (ExprForm-F.Cells f e) = e
-form_step (ExprForm-F.Shift e offsets) = e && all_fit offsets
-form_step (ExprForm-F.Extend e domain) = e && domain
-form_step (ExprForm-F.Concat parts along) = all_fit parts
-form_step (ExprForm-F.«ExprForm::Sdom» e) = e
-form_step (ExprForm-F.Oid a) = true
+abbrev pub form_fits : ExprForm-F Bool Bool Bool Bool → Bool
+form_fits (ExprForm-F.Bool b) = true
+form_fits (ExprForm-F.Number value atom) = is_in_range atom value
+form_fits (ExprForm-F.Name name) = true
+form_fits (ExprForm-F.Unary op e) = e
+form_fits (ExprForm-F.Cast to e) = e
+form_fits (ExprForm-F.Binary op a b) = a && b
+form_fits (ExprForm-F.Index e axes) = e && all_fit axes
+form_fits (ExprForm-F.Part e part) = e
+form_fits (ExprForm-F.Case arms other) = pairs_fit arms && other
+form_fits (ExprForm-F.Build es) = all_fit es
+form_fits (ExprForm-F.Marray x domain e) = domain && e
+form_fits (ExprForm-F.Condense op x domain cond e) = domain && (if_there cond && e)
+form_fits (ExprForm-F.Cells f e) = e
+form_fits (ExprForm-F.Shift e offsets) = e && all_fit offsets
+form_fits (ExprForm-F.Extend e domain) = e && domain
+form_fits (ExprForm-F.Concat parts along) = all_fit parts
+form_fits (ExprForm-F.«ExprForm::Sdom» e) = e
+form_fits (ExprForm-F.Oid a) = true
 
-abbrev pub expr_step : Expr-F Bool Bool Bool Bool → Bool
-expr_step e = e.form
+abbrev pub expr_fits : Expr-F Bool Bool Bool Bool → Bool
+expr_fits e = e.form
 
 -- each number of the expression lies in the range of its atom
 abbrev pub numbers_fit : Expr → Bool
-numbers_fit = fold-Expr Bool Bool Bool Bool axis_step domain_step form_step expr_step
+numbers_fit = fold-Expr Bool Bool Bool Bool axis_fits domain_fits form_fits expr_fits
 
 abbrev pub axis_numbers_fit : Axis → Bool
-axis_numbers_fit = fold-Axis Bool Bool Bool Bool axis_step domain_step form_step expr_step
+axis_numbers_fit = fold-Axis Bool Bool Bool Bool axis_fits domain_fits form_fits expr_fits
 
 abbrev pub condition_numbers_fit : Option Expr → Bool
 condition_numbers_fit None = true

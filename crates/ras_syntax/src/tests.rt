@@ -134,3 +134,32 @@ fn types_come_back_in_order(rt: HostRuntime) -> Result<(), Fail> {
     assert_eq!(rt; types.get(1).name.bytes(), b"RedSet".as_slice());
     Ok(())
 }
+
+#[test]
+fn long_lists_keep_their_items(rt: HostRuntime) -> Result<(), Fail> {
+    let mut cells = CellList::with_room(rt.alloc(), 8, 2_000)?;
+    for first in 0..2_000i64 {
+        assert!(rt; cells.len() < 2_000);
+        cells.push(&cell_of(&[first, 2, 3, 4, 5, 6, 7, 8]));
+    }
+    for (place, number) in (0..cells.len()).zip(0..2_000i64) {
+        assert!(rt; place < cells.len());
+        let want: Components<'_> = Some(&[number, 2, 3, 4, 5, 6, 7, 8]);
+        assert_eq!(rt; components_of(&cells.get(place)), want, "at {place}");
+    }
+    let mut rows = RowList::new(rt.alloc());
+    for number in 0..3_000i64 {
+        assert!(rt;
+            rows.push(rt.alloc(), RowValue::Scalar(cell_of(&[number])))
+                .is_ok()
+        );
+    }
+    assert_eq!(rt; rows.len(), 3_000);
+    let mut types = Types::new(rt.alloc());
+    for _ in 0..1_000 {
+        let grey = set_of(rt.alloc(), b"GreySet")?;
+        assert!(rt; types.push(rt.alloc(), grey).is_ok());
+    }
+    assert_eq!(rt; types.len(), 1_000);
+    Ok(())
+}

@@ -13,20 +13,20 @@ use Rattle.ras_domain.specs.Region.{points_of, IsIn, IsRegion, place_in_rows}
 use Rattle.ras_domain.proofs.Points.{Contains-IsIn}
 use Rattle.ras_domain.proofs.RowOrder.{place_in_rows-at}
 use Rattle.ras_tile.proofs.RowPlaces.{place-within, place-one}
-use Rattle.ras_tile.specs.Stored.{IsStored, nth_cell, cells_of}
-use Rattle.ras_tile.specs.Tile.{TileValue, IsTile, cell_at}
-use Rattle.ras_tile.specs.declared.TheConstants.{MAX_CELLS}
+use Rattle.ras_tile.specs.Stored.{IsStored, nth_cell, cells_stored_in}
+use Rattle.ras_tile.specs.Tile.{TileValue, IsTile, tile_cell_at}
+use Rattle.ras_domain.specs.declared.TheConstants.{MAX_TILE_CELLS}
 use Rattle.ras_cells.specs.declared.TheConstants.{MAX_COMPONENTS}
 
 -- there are as many cells as were asked for
-pub length-cells_of : (n width : ℕ) (xs : List ℤ) → length (cells_of n width xs) ≡ n
-unfolding cells_of
+pub length-cells_of : (n width : ℕ) (xs : List ℤ) → length (cells_stored_in n width xs) ≡ n
+unfolding cells_stored_in
 length-cells_of zero width xs = refl
 length-cells_of (suc n) width xs = ap (λ k. suc k) (length-cells_of n width (drop width xs))
 
 -- each is the one at its place
-pub slice_get-cells_of : (n width k : ℕ) (xs : List ℤ) → k < n → slice_get (cells_of n width xs) k ≡ Some (nth_cell width xs k)
-unfolding cells_of
+pub slice_get-cells_of : (n width k : ℕ) (xs : List ℤ) → k < n → slice_get (cells_stored_in n width xs) k ≡ Some (nth_cell width xs k)
+unfolding cells_stored_in
 slice_get-cells_of zero width k xs h = absurd (omega arith)
 slice_get-cells_of (suc n) width zero xs h =
     let none : 0 * width ≡ 0 = omega arith in
@@ -37,9 +37,9 @@ slice_get-cells_of (suc n) width (suc k) xs h =
     ∙ ap (λ ys. Some (take width ys)) (drop-drop (k * width) width xs ∙ ap (λ m. drop m xs) more)
 
 -- also read with a default
-get_or-cells_of : (n width k : ℕ) (xs : List ℤ) → k < n → get_or (cells_of n width xs) k [] ≡ nth_cell width xs k
+get_or-cells_of : (n width k : ℕ) (xs : List ℤ) → k < n → get_or (cells_stored_in n width xs) k [] ≡ nth_cell width xs k
 get_or-cells_of n width k xs within =
-    get_or_from_slice_get (cells_of n width xs) k (nth_cell width xs k) [] (slice_get-cells_of n width k xs within)
+    get_or_from_slice_get (cells_stored_in n width xs) k (nth_cell width xs k) [] (slice_get-cells_of n width k xs within)
 
 -- a cell has its width
 pub length-nth_cell : (width k : ℕ) (xs : List ℤ) → (k + 1) * width ≤ length xs → length (nth_cell width xs k) ≡ width
@@ -47,12 +47,12 @@ length-nth_cell width k xs h =
     length-take-le width (drop (k * width) xs) (omega (arith, length-drop (k * width) xs))
 
 -- and so has each of the first n
-pub All-cells_of : (n width : ℕ) (xs : List ℤ) → length xs ≡ n * width → All (λ cell. length cell ≡ width) (cells_of n width xs)
+pub All-cells_of : (n width : ℕ) (xs : List ℤ) → length xs ≡ n * width → All (λ cell. length cell ≡ width) (cells_stored_in n width xs)
 All-cells_of n width xs whole =
     λ k d below.
     let within : k < n = omega (arith, length-cells_of n width xs) in
     let up : k + 1 ≤ n = omega arith in
-    ap length (get_or_from_slice_get (cells_of n width xs) k (nth_cell width xs k) d (slice_get-cells_of n width k xs within))
+    ap length (get_or_from_slice_get (cells_stored_in n width xs) k (nth_cell width xs k) d (slice_get-cells_of n width k xs within))
     ∙ length-nth_cell width k xs (omega (arith, whole, mul-le-mul_right width up))
 
 -- ---- equal cells
@@ -66,8 +66,8 @@ length-times zero xs = omega arith
 length-times (suc n) xs = omega (arith, length-append xs (times n xs), length-times n xs)
 
 -- the cells of equal numbers over and over
-pub cells_of-times : (n : ℕ) (xs : List ℤ) → cells_of n (length xs) (times n xs) ≡ replicate n xs
-unfolding cells_of
+pub cells_of-times : (n : ℕ) (xs : List ℤ) → cells_stored_in n (length xs) (times n xs) ≡ replicate n xs
+unfolding cells_stored_in
 cells_of-times zero xs = refl
 cells_of-times (suc n) xs =
     rw (take_at xs (times n xs) (length xs) refl, drop_at xs (times n xs) (length xs) refl)
@@ -125,22 +125,22 @@ nth_cell-part width from count m xs k same below =
 pub cells_of-set : (n width at : ℕ) (old new ys : List ℤ) → length ys ≡ width → at < n
     → ((k : ℕ) → k < 1 → nth_cell width new (at + k) ≡ nth_cell width ys (0 + k))
     → ((k : ℕ) → (k < at) ⊎ (at + 1 ≤ k) → nth_cell width new k ≡ nth_cell width old k)
-    → cells_of n width new ≡ set (cells_of n width old) at ys
+    → cells_stored_in n width new ≡ set (cells_stored_in n width old) at ys
 cells_of-set n width at old new ys long below written others =
-    ext_get_or [] (cells_of n width new) (set (cells_of n width old) at ys)
-    (length-cells_of n width new ∙ sym (length-set (cells_of n width old) at ys ∙ length-cells_of n width old))
+    ext_get_or [] (cells_stored_in n width new) (set (cells_stored_in n width old) at ys)
+    (length-cells_of n width new ∙ sym (length-set (cells_stored_in n width old) at ys ∙ length-cells_of n width old))
     (λ k within.
     let inside : k < n = omega (arith, length-cells_of n width new) in
-    let here : get_or (cells_of n width new) k [] ≡ nth_cell width new k = get_or-cells_of n width k new inside in
-    let there : get_or (cells_of n width old) k [] ≡ nth_cell width old k = get_or-cells_of n width k old inside in
-    let other : (k < at) ⊎ (at + 1 ≤ k) → get_or (cells_of n width new) k [] ≡ get_or (set (cells_of n width old) at ys) k [] =
-    λ apart. here ∙ others k apart ∙ sym there ∙ sym (get_or-set_other (cells_of n width old) at k ys [] (λ same. elim apart [ inl less ↦ omega arith | inr more ↦ omega arith ])) in
+    let here : get_or (cells_stored_in n width new) k [] ≡ nth_cell width new k = get_or-cells_of n width k new inside in
+    let there : get_or (cells_stored_in n width old) k [] ≡ nth_cell width old k = get_or-cells_of n width k old inside in
+    let other : (k < at) ⊎ (at + 1 ≤ k) → get_or (cells_stored_in n width new) k [] ≡ get_or (set (cells_stored_in n width old) at ys) k [] =
+    λ apart. here ∙ others k apart ∙ sym there ∙ sym (get_or-set_other (cells_stored_in n width old) at k ys [] (λ same. elim apart [ inl less ↦ omega arith | inr more ↦ omega arith ])) in
     elim (cases_lt k at) [
       | inl less ↦ other (inl less)
       | inr not_less ↦ elim (cases_eq k at) [
         | inl same ↦
             here ∙ ap (nth_cell width new) (omega arith) ∙ written 0 (omega arith) ∙ nth_cell-whole width ys long
-            ∙ sym (ap (λ j. get_or (set (cells_of n width old) at ys) j []) same ∙ get_or-set_same (cells_of n width old) at ys [] (omega (arith, length-cells_of n width old)))
+            ∙ sym (ap (λ j. get_or (set (cells_stored_in n width old) at ys) j []) same ∙ get_or-set_same (cells_stored_in n width old) at ys [] (omega (arith, length-cells_of n width old)))
         | inr apart ↦ other (inr (omega arith))
       ]
     ])
@@ -150,7 +150,7 @@ cells_of-set n width at old new ys long below written others =
 -- the tile with these cells
 abbrev pub tile_of : List Interval → ℕ → List ℤ → Bool → TileValue
 tile_of box width numbers writable =
-    record { region = box; width = width; cells = cells_of (length (points_of box)) width numbers; writable = writable }
+    record { region = box; width = width; cells = cells_stored_in (length (points_of box)) width numbers; writable = writable }
 
 -- the cells of numbers that are stored whole are a tile's
 pub IsTile-stored : (box : List Interval) (width : ℕ) (numbers : List ℤ) (writable : Bool) → IsStored box width numbers → IsTile (tile_of box width numbers writable)
@@ -170,12 +170,12 @@ IsStored-room box width numbers at count whole within =
 
 -- the cell at a point of the box
 pub cell_at-stored : (box : List Interval) (width : ℕ) (numbers : List ℤ) (p : List ℤ) → IsIn p box
-    → slice_get (cells_of (length (points_of box)) width numbers) (place_in_rows box p) ≡ Some (nth_cell width numbers (place_in_rows box p))
+    → slice_get (cells_stored_in (length (points_of box)) width numbers) (place_in_rows box p) ≡ Some (nth_cell width numbers (place_in_rows box p))
 cell_at-stored box width numbers p inside =
     slice_get-cells_of (length (points_of box)) width (place_in_rows box p) numbers (place-within box p inside)
 
 -- the numbers of equal cells are stored whole
-pub IsStored-times : (box : List Interval) (xs numbers : List ℤ) → IsRegion box → length (points_of box) ≤ MAX_CELLS → length xs ≤ MAX_COMPONENTS
+pub IsStored-times : (box : List Interval) (xs numbers : List ℤ) → IsRegion box → length (points_of box) ≤ MAX_TILE_CELLS → length xs ≤ MAX_COMPONENTS
     → numbers ≡ times (length (points_of box)) xs → IsStored box (length xs) numbers
 IsStored-times box xs numbers region few narrow is = record {
   region = region;
@@ -209,13 +209,13 @@ slice_get-set_other (x ∷ xs) (suc k) (suc j) y apart = slice_get-set_other xs 
 
 -- the cell that was written, at its point
 pub cell_at-set : (tile : TileValue) (p numbers : List ℤ) → IsTile tile → IsIn p tile.region
-    → cell_at (record tile { cells = set tile.cells (place_in_rows tile.region p) numbers }) p ≡ Some numbers
+    → tile_cell_at (record tile { cells = set tile.cells (place_in_rows tile.region p) numbers }) p ≡ Some numbers
 cell_at-set tile p numbers tiled inside =
     slice_get-set_same tile.cells (place_in_rows tile.region p) numbers (omega (arith, tiled.each_point, place-within tile.region p inside))
 
 -- and those at the other points
 pub cell_at-set_other : (tile : TileValue) (p q numbers : List ℤ) → IsIn p tile.region → IsIn q tile.region → (q ≡ p → ⊥)
-    → cell_at (record tile { cells = set tile.cells (place_in_rows tile.region p) numbers }) q ≡ cell_at tile q
+    → tile_cell_at (record tile { cells = set tile.cells (place_in_rows tile.region p) numbers }) q ≡ tile_cell_at tile q
 cell_at-set_other tile p q numbers inside here differ =
     slice_get-set_other tile.cells (place_in_rows tile.region p) (place_in_rows tile.region q) numbers (λ same. differ (place-one tile.region q p here inside same))
 
@@ -223,14 +223,14 @@ cell_at-set_other tile p q numbers inside here differ =
 pub tile_of-set : (box : List Interval) (width : ℕ) (old new p numbers : List ℤ) (writable : Bool) → IsIn p box → length numbers ≡ width
     → ((k : ℕ) → k < 1 → nth_cell width new (place_in_rows box p + k) ≡ nth_cell width numbers (0 + k))
     → ((k : ℕ) → (k < place_in_rows box p) ⊎ (place_in_rows box p + 1 ≤ k) → nth_cell width new k ≡ nth_cell width old k)
-    → tile_of box width new writable ≡ record (tile_of box width old writable) { cells = set (cells_of (length (points_of box)) width old) (place_in_rows box p) numbers }
+    → tile_of box width new writable ≡ record (tile_of box width old writable) { cells = set (cells_stored_in (length (points_of box)) width old) (place_in_rows box p) numbers }
 tile_of-set box width old new p numbers writable inside long written others =
-    let same : cells_of (length (points_of box)) width new ≡ set (cells_of (length (points_of box)) width old) (place_in_rows box p) numbers =
+    let same : cells_stored_in (length (points_of box)) width new ≡ set (cells_stored_in (length (points_of box)) width old) (place_in_rows box p) numbers =
     cells_of-set (length (points_of box)) width (place_in_rows box p) old new numbers long (place-within box p inside) written others in
     rw same refl
 
 -- tiles on one box with the same cell at each point have the same cells
-pub cells-same : (a b : TileValue) → IsTile a → IsTile b → a.region ≡ b.region → ((p : List ℤ) → IsIn p a.region → cell_at a p ≡ cell_at b p) → a.cells ≡ b.cells
+pub cells-same : (a b : TileValue) → IsTile a → IsTile b → a.region ≡ b.region → ((p : List ℤ) → IsIn p a.region → tile_cell_at a p ≡ tile_cell_at b p) → a.cells ≡ b.cells
 cells-same a b left right same each =
     let long : length a.cells ≡ length b.cells = omega (arith, left.each_point, right.each_point, ap (λ box. length (points_of box)) same) in
     ext_get_or [] a.cells b.cells long

@@ -1,8 +1,7 @@
 -- Where the points of a row lie: those that agree but in the last coordinate.
 use Rattle.std.proofs.Common.{◌≡◌, ℕ, zero, suc, ◌+◌, ◌-◌, ◌*◌, ◌≤◌, ◌<◌, ℤ, pos, ◌+ℤ◌, ◌-ℤ◌, ◌≤ℤ◌, List, [], ◌∷◌, map, length, get_or, set, Some, refl, sym, ap, ◌∙◌, arith, inl, inr, ◌⊎◌, to_z, of_z}
-use Rattle.std.specs.Int.{w64}
+use Rattle.std.specs.Int.{w64, int_gap}
 use Rattle.std.proofs.lemmas.Bool.{cases_lt}
-use Rattle.std.specs.Int.{int_gap}
 use Rattle.std.specs.Int.RustNames.{unsigned_abs}
 use Rattle.std.specs.List.{flat_map, range_with_len, slice_get}
 use Rattle.std.proofs.lemmas.Int.{ints}

@@ -3,7 +3,7 @@ use Rattle.std.specs.Prelude.{◌≡◌, ℕ, ℤ, ◌≤◌, Bool, true, List, 
 use Rattle.ras_cells.specs.declared.TheConstants.{MAX_COMPONENTS}
 use Rattle.ras_domain.specs.declared.region.Interval.{Interval}
 use Rattle.ras_domain.specs.Region.{IsRegion, points_of, place_in_rows}
-use Rattle.ras_tile.specs.declared.TheConstants.{MAX_CELLS}
+use Rattle.ras_domain.specs.declared.TheConstants.{MAX_TILE_CELLS}
 
 -- a box, how many numbers each cell has, the cells of the box's points in row-major order, and whether they may be written
 pub record TileValue : Type 0 where
@@ -13,13 +13,13 @@ pub record TileValue : Type 0 where
   pub writable : Bool
 
 -- the cell at a point of the box
-abbrev pub cell_at : TileValue → List ℤ → Option (List ℤ)
-cell_at tile p = slice_get tile.cells (place_in_rows tile.region p)
+abbrev pub tile_cell_at : TileValue → List ℤ → Option (List ℤ)
+tile_cell_at tile p = slice_get tile.cells (place_in_rows tile.region p)
 
 -- the box is a small region, and each of its points has a cell of as many numbers as the tile's width
 pub record IsTile (tile : TileValue) : Type 0 where
   pub box : IsRegion tile.region
-  pub few_cells : length (points_of tile.region) ≤ MAX_CELLS
+  pub few_cells : length (points_of tile.region) ≤ MAX_TILE_CELLS
   pub few_numbers : tile.width ≤ MAX_COMPONENTS
   pub each_point : length tile.cells ≡ length (points_of tile.region)
   pub each_width : All (λ cell. length cell ≡ tile.width) tile.cells

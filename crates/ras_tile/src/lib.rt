@@ -8,6 +8,3 @@ mod tests;
 mod tile;
 
 pub use tile::Tile;
-
-/// The most cells that a tile may have: 2^16.
-pub const MAX_CELLS: u64 = 65_536;

@@ -2,9 +2,9 @@
 ghost use Rattle.std.specs.Prelude.{List, ℤ, IsTrue, IfOk};
 ghost use Rattle.ras_domain.specs.Region.{IsIn};
 
-use crate::{MAX_CELLS, Tile};
+use crate::Tile;
 use ras_cells::{MAX_COMPONENTS, Numbers};
-use ras_domain::{Interval, MAX_AXES, Point, Region};
+use ras_domain::{Interval, MAX_AXES, MAX_TILE_CELLS, Point, Region};
 use std::alloc::{AllocError, Global};
 use std::process::Abort;
 use std::test::Fail;
@@ -61,7 +61,7 @@ fn filled(rt: &impl Abort, alloc: Global, pairs: Pairs<'_>, numbers: &[i64]) -> 
     ensures { IfOk result (λ tile. IsTrue tile.writable) }
 {
     let region = region_of(alloc, pairs)?;
-    assert!(rt; region.volume() <= MAX_CELLS);
+    assert!(rt; region.volume() <= MAX_TILE_CELLS);
     Ok(Tile::filled(alloc, region, &numbers_of(rt, numbers))?)
 }
 
@@ -227,5 +227,22 @@ fn the_largest_tile_is_filled(rt: HostRuntime) -> Result<(), Fail> {
     assert_eq!(rt; numbers.len(), 65_536);
     assert_eq!(rt; numbers.iter().filter(|n| **n == 3).count(), 65_535);
     assert_eq!(rt; numbers.last().copied(), Some(4));
+    Ok(())
+}
+
+#[test]
+fn cells_of_eight_components_are_kept(rt: HostRuntime) -> Result<(), Fail> {
+    let numbers = [1, -2, 3, -4, 5, -6, 7, i64::MIN];
+    let mut tile = filled(&rt, rt.alloc(), &[(-1, 0), (5, 6)], &numbers)?;
+    write(&rt, &mut tile, &[0, 5], &[0; 8]);
+    let copy = tile.try_clone(rt.alloc())?;
+    let mut want = Vec::new(rt.alloc());
+    for cell in [numbers, numbers, [0; 8], numbers] {
+        want.extend_from_slice(&cell)?;
+    }
+    assert_eq!(rt;
+        numbers_in(&rt, rt.alloc(), &copy)?.as_slice(),
+        want.as_slice()
+    );
     Ok(())
 }

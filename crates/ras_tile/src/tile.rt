@@ -1,11 +1,10 @@
 ghost use Rattle.std.specs.Prelude.{◌≡◌, ◌≢◌, ◌≤◌, List, ℤ, length, slice_set, Some, true, IsTrue, IfOk};
 ghost use Rattle.ras_domain.specs.Region.{IsIn, points_of, place_in_rows};
-ghost use Rattle.ras_tile.specs.Tile.{IsTile, cell_at, filled_tile};
+ghost use Rattle.ras_tile.specs.Tile.{IsTile, tile_cell_at, filled_tile};
 
-use crate::MAX_CELLS;
 use crate::rows::{copy_cells, copy_rows};
 use ras_cells::Numbers;
-use ras_domain::{Point, Region};
+use ras_domain::{MAX_TILE_CELLS, Point, Region};
 use std::alloc::{AllocError, Global};
 use std::marker::Model;
 
@@ -23,7 +22,7 @@ pub struct Tile {
 impl Model for Tile {
     ghost use Rattle.std.specs.Prelude.{length};
     ghost use Rattle.ras_domain.specs.Region.{points_of};
-    ghost use Rattle.ras_tile.specs.Stored.{IsStored, cells_of};
+    ghost use Rattle.ras_tile.specs.Stored.{IsStored, cells_stored_in};
     ghost use Rattle.ras_tile.specs.Tile.{TileValue};
 
     ghost Value = { TileValue };
@@ -31,7 +30,7 @@ impl Model for Tile {
     ghost view = { λ t. record {
       region = t.region;
       width = t.width;
-      cells = cells_of (length (points_of t.region)) t.width t.numbers.items;
+      cells = cells_stored_in (length (points_of t.region)) t.width t.numbers.items;
       writable = t.writable;
     } };
 
@@ -42,7 +41,7 @@ impl Tile {
     /// The writable tile on `region` with the numbers `n` at each point. The error is want of
     /// memory.
     pub fn filled(alloc: Global, region: Region, n: &Numbers) -> Result<Tile, AllocError>
-        requires few_cells { length (points_of region) ≤ MAX_CELLS }
+        requires few_cells { length (points_of region) ≤ MAX_TILE_CELLS }
         ensures filled { IfOk result (λ tile. tile ≡ filled_tile region n.now.items) }
         ensures tile { IfOk result IsTile }
     {
@@ -94,7 +93,7 @@ impl Tile {
     /// The numbers at a point of the box.
     pub fn get(&self, p: &Point) -> Numbers
         requires within { IsIn p.now.items self.now.region }
-        ensures { cell_at self.now p.now.items ≡ Some result.items }
+        ensures { tile_cell_at self.now p.now.items ≡ Some result.items }
     {
         let from = self.region.row_place(p) as usize * self.width;
         Numbers::try_from(&self.numbers[from..from + self.width]).unwrap()
@@ -105,9 +104,9 @@ impl Tile {
         requires writable { IsTrue self.old.writable }
         requires within { IsIn p.now.items self.old.region }
         requires width { length n.now.items ≡ self.old.width }
-        ensures cell { cell_at self.new p.now.items ≡ Some n.now.items }
+        ensures cell { tile_cell_at self.new p.now.items ≡ Some n.now.items }
         ensures others { (q : List ℤ) → IsIn q self.old.region → q ≢ p.now.items
-            → cell_at self.new q ≡ cell_at self.old q }
+            → tile_cell_at self.new q ≡ tile_cell_at self.old q }
         ensures written { let place = place_in_rows self.old.region p.now.items in
             self.new ≡ record self.old { cells = slice_set self.old.cells place n.now.items } }
         ensures tile { IsTile self.new }
@@ -131,9 +130,9 @@ impl Tile {
         requires source { (p : List ℤ) → IsIn p region.now → IsIn p source.now.region }
         requires width { source.now.width ≡ self.old.width }
         ensures copied { (p : List ℤ) → IsIn p region.now
-            → cell_at self.new p ≡ cell_at source.now p }
+            → tile_cell_at self.new p ≡ tile_cell_at source.now p }
         ensures others { (p : List ℤ) → IsIn p self.old.region → ¬ IsIn p region.now
-            → cell_at self.new p ≡ cell_at self.old p }
+            → tile_cell_at self.new p ≡ tile_cell_at self.old p }
         ensures stays { self.new ≡ record self.old { cells = self.new.cells } }
         ensures tile { IsTile self.new }
     {

@@ -24,7 +24,15 @@ length-workload_closing = omega arith
 length-first_text : (axes : List Interval) → IsTrim axes → length (first_text axes) ≤ MOST_BYTES
 length-first_text axes trim =
     let nine = ap length (trim-nine axes trim).written in
-    omega (arith, nine, length-workload_opening, length-workload_closing, length-append (workload_opening ++ region_text axes) workload_closing, length-append workload_opening (region_text axes))
+    omega (
+      arith,
+      nine,
+      length-workload_opening,
+      length-workload_closing,
+      length-append (workload_opening ++ region_text axes) workload_closing,
+      length-append
+          workload_opening (region_text axes),
+    )
 
 -- no answer has the status of a cut text
 whole-status : (answer : Answer) → status_of answer ≢ cut_short

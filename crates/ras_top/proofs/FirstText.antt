@@ -6,13 +6,15 @@ use Rattle.ras_top.specs.Texts.{region_text}
 use Rattle.ras_top.specs.Workload.{workload_opening, workload_closing, first_text, IsTrim}
 
 -- the beginning and the end were taken off: what is left is that of the axes
-pub middle-first_text : (text rest middle : List ℕ) (axes : List Interval) → text ≡ workload_opening ++ rest → rest ≡ middle ++ workload_closing → text ≡ first_text axes → middle ≡ region_text axes
+pub middle-first_text : (text rest middle : List ℕ) (axes : List Interval) → text ≡ workload_opening ++ rest → rest ≡ middle ++ workload_closing
+    → text ≡ first_text axes → middle ≡ region_text axes
 middle-first_text text rest middle axes e f g =
     append_cancel_right middle (region_text axes) workload_closing
     (sym f ∙ append_cancel_left workload_opening rest (region_text axes ++ workload_closing) (sym e ∙ g ∙ append_assoc workload_opening (region_text axes) workload_closing))
 
 -- and it was there, where it is that of the axes
-pub first_text-middle : (text rest middle : List ℕ) (axes : List Interval) → text ≡ workload_opening ++ rest → rest ≡ middle ++ workload_closing → middle ≡ region_text axes → text ≡ first_text axes
+pub first_text-middle : (text rest middle : List ℕ) (axes : List Interval) → text ≡ workload_opening ++ rest → rest ≡ middle ++ workload_closing
+    → middle ≡ region_text axes → text ≡ first_text axes
 first_text-middle text rest middle axes e f g =
     e ∙ ap (λ l. workload_opening ++ l) (f ∙ ap (λ l. l ++ workload_closing) g) ∙ sym (append_assoc workload_opening (region_text axes) workload_closing)
 

@@ -6,7 +6,8 @@ use Rattle.std.proofs.lemmas.Int.{ints}
 use Rattle.std.proofs.lemmas.Slice.Eq.{text_from_reads}
 use Rattle.ras_domain.specs.declared.region.Interval.{Interval}
 use Rattle.ras_top.specs.Texts.{region_text, interval_text}
-use Rattle.ras_top.specs.Workload.{IsTrim, IsSmall}
+use Rattle.ras_core.specs.First.{IsWithinG}
+use Rattle.ras_top.specs.Workload.{IsTrim}
 
 -- a number from 0 to 3 is written by one digit
 record IsDigit (z : ℤ) : Type 0 where
@@ -29,7 +30,7 @@ pub record IsThree (axis : Interval) : Type 0 where
   pub small : hi ≤ 3
   pub written : interval_text axis ≡ (48 + lo) ∷ 58 ∷ (48 + hi) ∷ []
 
-pub three : (axis : Interval) → IsSmall axis → IsThree axis
+pub three : (axis : Interval) → IsWithinG axis → IsThree axis
 three axis h =
     let l = digit axis.lo h.0 (omega (arith, ints, h.1, h.2)) in
     let u = digit axis.hi (omega (arith, ints, h.0, h.1)) h.2 in
@@ -56,8 +57,8 @@ region_text-nine row column a b c d e f =
 pub record IsNine (axes : List Interval) : Type 0 where
   pub row : Interval
   pub column : Interval
-  pub row_small : IsSmall row
-  pub column_small : IsSmall column
+  pub row_small : IsWithinG row
+  pub column_small : IsWithinG column
   pub row_bytes : IsThree row
   pub column_bytes : IsThree column
   pub written : region_text axes ≡ nine (48 + row_bytes.lo) (48 + row_bytes.hi) (48 + column_bytes.lo) (48 + column_bytes.hi)
@@ -77,9 +78,9 @@ trim-nine (row ∷ []) h = absurd h
 trim-nine (row ∷ column ∷ more ∷ axes) h = absurd h
 
 -- an axis between two digits is written by them
-pub axis-written : (lo hi : ℕ) → 48 ≤ lo → lo ≤ hi → hi ≤ 51 → (axis : Interval) → axis.lo ≡ pos (lo - 48) → axis.hi ≡ pos (hi - 48) → IsSmall axis × (interval_text axis ≡ lo ∷ 58 ∷ hi ∷ [])
+pub axis-written : (lo hi : ℕ) → 48 ≤ lo → lo ≤ hi → hi ≤ 51 → (axis : Interval) → axis.lo ≡ pos (lo - 48) → axis.hi ≡ pos (hi - 48) → IsWithinG axis × (interval_text axis ≡ lo ∷ 58 ∷ hi ∷ [])
 axis-written lo hi a b c axis e f =
-    let small : IsSmall axis = (omega (arith, ints, e), omega (arith, ints, e, f), omega (arith, ints, f)) in
+    let small : IsWithinG axis = (omega (arith, ints, e), omega (arith, ints, e, f), omega (arith, ints, f)) in
     let t = three axis small in
     let l : 48 + t.lo ≡ lo = omega (arith, ints, t.lo_is, e) in
     let u : 48 + t.hi ≡ hi = omega (arith, ints, t.hi_is, f) in
@@ -87,7 +88,7 @@ axis-written lo hi a b c axis e f =
     (small, rw (l, u) at written)
 
 -- the digits of a small axis are from 0 to 3 and don't fall
-pub axis-read : (axis : Interval) (lo hi : ℕ) → IsSmall axis → interval_text axis ≡ lo ∷ 58 ∷ hi ∷ [] → (48 ≤ lo) × (lo ≤ hi) × (hi ≤ 51)
+pub axis-read : (axis : Interval) (lo hi : ℕ) → IsWithinG axis → interval_text axis ≡ lo ∷ 58 ∷ hi ∷ [] → (48 ≤ lo) × (lo ≤ hi) × (hi ≤ 51)
 axis-read axis lo hi small e =
     let t = three axis small in
     let bytes : (48 + t.lo) ∷ 58 ∷ (48 + t.hi) ∷ [] ≡ lo ∷ 58 ∷ hi ∷ [] = sym t.written ∙ e in
@@ -103,7 +104,7 @@ trim-bytes text axes trim e =
     (ap (λ l. get_or l 0 0) w, ap (λ l. get_or l 2 0) w, ap (λ l. get_or l 4 0) w, ap (λ l. get_or l 6 0) w, ap (λ l. get_or l 8 0) w)
 
 -- and the axes that its digits are
-pub trim-axes : (text : List ℕ) (axes : List Interval) (trim : IsTrim axes) → text ≡ region_text axes → (row : Interval) × (column : Interval) × IsSmall row × IsSmall column
+pub trim-axes : (text : List ℕ) (axes : List Interval) (trim : IsTrim axes) → text ≡ region_text axes → (row : Interval) × (column : Interval) × IsWithinG row × IsWithinG column
     × (interval_text row ≡ get_or text 1 0 ∷ 58 ∷ get_or text 3 0 ∷ []) × (interval_text column ≡ get_or text 5 0 ∷ 58 ∷ get_or text 7 0 ∷ [])
 trim-axes text axes trim e =
     let n = trim-nine axes trim in

@@ -5,7 +5,7 @@ use Rattle.std.specs.List.{concat, join_by}
 use Rattle.ras_domain.specs.declared.region.Interval.{Interval}
 use Rattle.ras_core.specs.declared.first.FirstEvent.{FirstEvent}
 use Rattle.ras_core.specs.declared.first.FirstEvent.TheVariants.{Begun, Granted, Answered, Committed}
-use Rattle.ras_core.specs.First.{cells_of, history_of}
+use Rattle.ras_core.specs.First.{g_cells, history_of}
 use Rattle.ras_top.specs.Texts.{region_text, granted_text}
 
 -- a line for each event. There is one session with one statement in one transaction, and each has number 1
@@ -21,7 +21,7 @@ abbrev pub answers_text : List Interval → List ℕ
 answers_text axes =
     codes "#rasq report 1\n#session A\n1 1 value 1\nrow "
     ++ region_text axes
-    ++ flat_map (λ cell. codes " " ++ signed_decimal cell) (cells_of axes)
+    ++ flat_map (λ cell. codes " " ++ signed_decimal cell) (g_cells axes)
     ++ codes "\n"
 
 -- the history, an event a line

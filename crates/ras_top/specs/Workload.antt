@@ -1,6 +1,7 @@
 -- The one form of workload that is built so far: a select that trims the array G.
-use Rattle.std.specs.Prelude.{◌≡◌, ℕ, pos, ◌≤ℤ◌, List, [], ◌∷◌, ◌++◌, codes}
+use Rattle.std.specs.Prelude.{◌≡◌, ℕ, List, [], ◌∷◌, ◌++◌, codes}
 use Rattle.ras_domain.specs.declared.region.Interval.{Interval}
+use Rattle.ras_core.specs.First.{IsWithinG}
 use Rattle.ras_top.specs.Texts.{region_text}
 
 -- the workload above the trim: its types, its setup, and the beginning of its one statement
@@ -25,13 +26,9 @@ workload_opening =
 unfoldable pub workload_closing : List ℕ
 workload_closing = codes " from G as a;\n#end\n"
 
--- both bounds are digits from 0 to 3, and the lower is at most the upper
-abbrev pub IsSmall : Interval → Type 0
-IsSmall axis = (pos 0 ≤ℤ axis.lo) × (axis.lo ≤ℤ axis.hi) × (axis.hi ≤ℤ pos 3)
-
 -- the trim of the select has two such axes
 abbrev pub IsTrim : List Interval → Type 0
-IsTrim (row ∷ column ∷ []) = IsSmall row × IsSmall column
+IsTrim (row ∷ column ∷ []) = IsWithinG row × IsWithinG column
 IsTrim _ = ⊥
 
 -- the workload whose select trims G to these axes

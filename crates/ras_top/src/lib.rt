@@ -12,7 +12,7 @@ mod texts;
 mod trimmed;
 mod workload;
 
-pub use run::{rasq_main, rasq_quiet};
+pub use run::{rasq_main, rasq_quiet, refuse_memory};
 
 /// The most bytes that are read: 64 MiB.
 pub const MOST_BYTES: usize = 67_108_864;

@@ -1,9 +1,11 @@
 //! The calls that the program makes.
-ghost use Rattle.std.specs.Prelude.{◌≡◌, map, string_bytes, IsSome, IfSome};
-ghost use Rattle.ras_top.specs.Answer.{IsRun};
+ghost use Rattle.std.specs.Prelude.{◌≡◌, ◌≢◌, map, string_bytes, IsSome, IfSome};
+ghost use Rattle.ras_edges.specs.Sink.{Wrote, Stopped, IsFlushed};
+ghost use Rattle.ras_top.specs.Answer.{IsRun, cut_short, status_of, text_of};
+ghost use Rattle.ras_top.specs.declared.answer.Answer.TheVariants.{NoMemory};
 ghost use Rattle.ras_top.specs.Call.{call_of, IsAnswered};
 
-use crate::answer::send;
+use crate::answer::{Answer, send};
 use crate::judge::judge;
 use ras_edges::{Gate, Sink, Source};
 use std::alloc::Global;
@@ -42,6 +44,21 @@ pub fn rasq_quiet<R: Threads + Sync, S: Source, K: Sink>(
     match send(sink, &answer) {
         Ok(()) => Some(answer.status()),
         Err(_) => Some(CUT_SHORT),
+    }
+}
+
+/// Refuses for want of memory, where there wasn't enough even to collect the words. It writes the
+/// refusal to the sink, flushes it, and answers its status, 5, or 4 where a write or the flush
+/// failed.
+pub fn refuse_memory<K: Sink>(sink: &mut K) -> u8
+    ensures whole { result ≢ cut_short → (result ≡ status_of NoMemory)
+        × Wrote K.taken K.faults sink.old sink.new (text_of NoMemory) × IsFlushed (K.taken sink.new) (K.flushed sink.new) }
+    ensures cut { result ≡ cut_short → Stopped K.taken K.faults sink.old sink.new (text_of NoMemory) }
+{
+    let answer = Answer::NoMemory;
+    match send(sink, &answer) {
+        Ok(()) => answer.status(),
+        Err(_) => CUT_SHORT,
     }
 }
 

@@ -1,6 +1,6 @@
 //! The array G, trimmed.
 ghost use Rattle.std.specs.Prelude.{◌≡◌, IfOk};
-ghost use Rattle.ras_core.specs.First.{cells_of, history_of};
+ghost use Rattle.ras_core.specs.First.{g_cells, history_of};
 ghost use Rattle.ras_top.specs.Workload.{IsTrim};
 
 use ras_core::{FirstCore, FirstEvent};
@@ -20,13 +20,13 @@ pub struct Trimmed {
 impl Model for Trimmed {
     ghost use Rattle.std.specs.Prelude.{◌≡◌, List};
     ghost use Rattle.ras_domain.specs.declared.region.Interval.{Interval};
-    ghost use Rattle.ras_core.specs.First.{cells_of, history_of};
+    ghost use Rattle.ras_core.specs.First.{g_cells, history_of};
 
     ghost Value = { List Interval };
 
     ghost view = { λ t. t.region };
 
-    ghost invariant = { λ t. (t.cells.items ≡ cells_of t.region) × (t.core ≡ history_of t.region) };
+    ghost invariant = { λ t. (t.cells.items ≡ g_cells t.region) × (t.core ≡ history_of t.region) };
 }
 
 impl Trimmed {
@@ -57,7 +57,7 @@ impl Trimmed {
 
     /// The cells in row-major order.
     pub fn cells(&self) -> &[i64]
-        ensures { result.now ≡ cells_of self.now }
+        ensures { result.now ≡ g_cells self.now }
     {
         self.cells.as_slice()
     }

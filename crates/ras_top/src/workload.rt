@@ -2,7 +2,8 @@
 ghost use Rattle.std.specs.Prelude.{◌≡◌, ◌≢◌, List, ℕ, [], ◌∷◌, ◌++◌, MatchOption};
 ghost use Rattle.ras_domain.specs.declared.region.Interval.{Interval};
 ghost use Rattle.ras_top.specs.Texts.{region_text, interval_text};
-ghost use Rattle.ras_top.specs.Workload.{workload_opening, workload_closing, first_text, IsTrim, IsSmall};
+ghost use Rattle.ras_core.specs.First.{IsWithinG};
+ghost use Rattle.ras_top.specs.Workload.{workload_opening, workload_closing, first_text, IsTrim};
 
 use ras_domain::Interval;
 
@@ -62,8 +63,8 @@ fn read_trim(text: &[u8]) -> Option<[Interval; 2]>
 
 /// The axis between two digits from 0 to 3 that don't fall.
 fn read_axis(lo: u8, hi: u8) -> Option<Interval>
-    ensures { MatchOption result ((axis : Interval) → IsSmall axis → interval_text axis ≢ lo ∷ 58 ∷ hi ∷ [])
-        (λ axis. IsSmall axis × (interval_text axis ≡ lo ∷ 58 ∷ hi ∷ [])) }
+    ensures { MatchOption result ((axis : Interval) → IsWithinG axis → interval_text axis ≢ lo ∷ 58 ∷ hi ∷ [])
+        (λ axis. IsWithinG axis × (interval_text axis ≡ lo ∷ 58 ∷ hi ∷ [])) }
 {
     if b'0' <= lo && lo <= hi && hi <= b'3' {
         Some(Interval {

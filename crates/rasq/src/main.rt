@@ -1,18 +1,12 @@
 //! rasq, an array server: makes the real source and sink, makes one call, and ends with its status.
 #![tactic(auto)]
 
-use ras_edges::{OpenGate, Sink, StdSink, StdSource, write_whole};
-use ras_top::rasq_main;
+use ras_edges::{OpenGate, StdSink, StdSource};
+use ras_top::{rasq_main, refuse_memory};
 use std::io::ErrorKind;
 use std::process::ExitCode;
 use std::rt::Env;
 use std::{env, io};
-
-/// The status where a refusal could not be written.
-const CUT_SHORT: u8 = 4;
-
-/// The status for want of memory.
-const NO_MEMORY: u8 = 5;
 
 fn main(rt: HostRuntime) -> ExitCode {
     let mut sink = StdSink::new(&rt);
@@ -33,11 +27,4 @@ fn words_of(rt: &(impl Env + AllocGlobal)) -> io::Result<Vec<String>> {
         Err(error) if error.kind() == ErrorKind::InvalidData => Ok(Vec::new(rt.alloc())),
         Err(error) => Err(error),
     }
-}
-
-fn refuse_memory<K: Sink>(sink: &mut K) -> u8 {
-    if write_whole(sink, b"refused memory\n").is_err() || sink.flush().is_err() {
-        return CUT_SHORT;
-    }
-    NO_MEMORY
 }

@@ -7,5 +7,6 @@ use Rattle.ras_cells.proofs.stored.are_in_range.Goals as goal
 
 pub returns : goal.returns
 returns c =
-    all_from_yields_List (λ p. is_in_range p.0 p.1) c.all.new.self _ _ c.all.ensures.ran (YieldsList-from_zip (YieldsList-from_slice c.args.atoms.now cc) (YieldsList-from_slice c.args.numbers.now cc)) (λ x b q k. search (rules, tests))
+    all_from_yields_List (λ p. is_in_range p.0 p.1) c.all.new.self _ _ c.all.ensures.ran
+    (YieldsList-from_zip (YieldsList-from_slice c.args.atoms.now cc) (YieldsList-from_slice c.args.numbers.now cc)) (λ x b q k. search (rules, tests))
     ∙ list_all-zip c.args.atoms.now c.args.numbers.now c.requires

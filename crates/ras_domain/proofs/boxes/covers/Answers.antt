@@ -7,7 +7,8 @@ use Rattle.ras_domain.proofs.boxes.covers.Goals as goal
 pub returns-then-big-small : goal.returns-then-big-small
 returns-then-big-small c =
     Covers-from_cases c.args.big.now c.args.small.now c.all.result c.requires c.if-big-small.true
-    (cases_from_all c.all.new.self _ _ IsWithin (λ x. ¬ IsWithin x) c.all.ensures.ran (YieldsList-from_zip (YieldsList-from_slice c.args.big.now cc) (YieldsList-from_slice c.args.small.now cc)) (λ x q k. search (rules, tests)) (λ x q k. search (rules, tests)))
+    (cases_from_all c.all.new.self _ _ IsWithin (λ x. ¬ IsWithin x) c.all.ensures.ran
+    (YieldsList-from_zip (YieldsList-from_slice c.args.big.now cc) (YieldsList-from_slice c.args.small.now cc)) (λ x q k. search (rules, tests)) (λ x q k. search (rules, tests)))
 
 pub returns-else-big-small : goal.returns-else-big-small
 returns-else-big-small c =

@@ -7,7 +7,8 @@ use Rattle.ras_domain.proofs.region.has_point.Goals as goal
 pub returns-then-axes-p : goal.returns-then-axes-p
 returns-then-axes-p c =
     IsIn-from_cases c.args.axes.now c.args.p.now c.all.result c.if-axes-p.true
-    (cases_from_all c.all.new.self _ _ IsBetween (λ x. ¬ IsBetween x) c.all.ensures.ran (YieldsList-from_zip (YieldsList-from_slice c.args.axes.now cc) (YieldsList-from_slice c.args.p.now cc)) (λ x q k. search (rules, tests)) (λ x q k. search (rules, tests)))
+    (cases_from_all c.all.new.self _ _ IsBetween (λ x. ¬ IsBetween x) c.all.ensures.ran
+    (YieldsList-from_zip (YieldsList-from_slice c.args.axes.now cc) (YieldsList-from_slice c.args.p.now cc)) (λ x q k. search (rules, tests)) (λ x q k. search (rules, tests)))
 
 pub returns-else-axes-p : goal.returns-else-axes-p
 returns-else-axes-p c =

@@ -17,7 +17,8 @@ loop-at-preserved g c =
     let n = c.in_ok-at.field-0 in
     let whole = take-rest text at in
     let bound : n ≤ length (take (length text - at) (drop at text)) = c.in_ok-at.ensures.count in
-    let piece : Wrote g.K.Sink.taken g.K.Sink.faults c.loop-at.sink c.write.new.self (take n (take (length text - at) (drop at text))) = record { appended = c.in_ok-at.ensures.bytes; faults_stay = c.write.ensures.faults_stay } in
+    let piece : Wrote g.K.Sink.taken g.K.Sink.faults c.loop-at.sink c.write.new.self (take n (take (length text - at) (drop at text))) = record
+    { appended = c.in_ok-at.ensures.bytes; faults_stay = c.write.ensures.faults_stay } in
     let sofar = Wrote-more c.loop-at.invariant.so_far piece in
     record {
       in_text = omega (arith, rw whole at bound, length-drop at text);

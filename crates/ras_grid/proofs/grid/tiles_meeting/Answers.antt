@@ -12,11 +12,13 @@ next_point-next-requires c =
 
 pub loop-next-smaller : goal.loop-next-smaller
 loop-next-smaller c =
-    IsWalk-falls (λ p. record { items = p }) c.region_of_places-places.result c.in-Some.place.items c.loop-next.tiles.items c.push.new.self.items (rw c.in-Some.is at c.loop-next.invariant) c.in_ok-push.ensures.items
+    IsWalk-falls (λ p. record { items = p }) c.region_of_places-places.result c.in-Some.place.items c.loop-next.tiles.items c.push.new.self.items
+    (rw c.in-Some.is at c.loop-next.invariant) c.in_ok-push.ensures.items
 
 pub loop-next-preserved : goal.loop-next-preserved
 loop-next-preserved c =
-    IsWalk-more (λ p. record { items = p }) c.region_of_places-places.result c.in-Some.place.items _ c.loop-next.tiles.items c.push.new.self.items (rw c.in-Some.is at c.loop-next.invariant) c.next_point-next.ensures c.in_ok-push.ensures.items
+    IsWalk-more (λ p. record { items = p }) c.region_of_places-places.result c.in-Some.place.items _ c.loop-next.tiles.items c.push.new.self.items
+    (rw c.in-Some.is at c.loop-next.invariant) c.next_point-next.ensures c.in_ok-push.ensures.items
 
 pub returns-clause-places : goal.returns-clause-places
 returns-clause-places c =

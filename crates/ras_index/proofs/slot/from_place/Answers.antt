@@ -9,7 +9,8 @@ use Rattle.ras_index.proofs.slot.from_place.Goals as goal
 
 pub returns-clause-sorted : goal.returns-clause-sorted
 returns-clause-sorted g c =
-    subst (λ slots. IsStrictlySortedBy row_major (places_of slots)) (sym (take_all (length c.args.slots.now - c.in-Ok.start) (drop c.in-Ok.start c.args.slots.now) (omega (arith, length-drop c.in-Ok.start c.args.slots.now))))
+    subst (λ slots. IsStrictlySortedBy row_major (places_of slots))
+    (sym (take_all (length c.args.slots.now - c.in-Ok.start) (drop c.in-Ok.start c.args.slots.now) (omega (arith, length-drop c.in-Ok.start c.args.slots.now))))
     (sorted-drop row_major (λ slot. slot.place.items) c.args.slots.now c.in-Ok.start c.requires)
 
 pub returns-clause-others : goal.returns-clause-others

@@ -32,7 +32,12 @@ overflow_add-steps c =
     let inside : IsIn c.in-Some.p.items c.args.region.now = IsCopying-within (rw c.in-Some.is at c.loop-next.invariant) in
     let end : IsIn (along c.in-Some.p.items c.finish_row-steps.result) c.args.region.now =
     rw (c.finish_row-steps.ensures.moved, c.as_mut_slice.ensures.value, c.axes.ensures.axes) at c.finish_row-steps.ensures.within in
-    omega (arith, c.axes.ensures.region.few_points, row_fits c.args.region.now c.args.region.now c.in-Some.p.items c.finish_row-steps.result (λ q here. here) c.axes.ensures.region.some_axes inside end)
+    omega (
+      arith,
+      c.axes.ensures.region.few_points,
+      row_fits c.args.region.now c.args.region.now c.in-Some.p.items c.finish_row-steps.result (λ q here. here)
+          c.axes.ensures.region.some_axes inside end,
+    )
 
 pub copy_cells-requires-clause-to_within : goal.copy_cells-requires-clause-to_within
 copy_cells-requires-clause-to_within c =

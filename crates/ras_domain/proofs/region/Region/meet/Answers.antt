@@ -14,7 +14,8 @@ pub invariant_of-result : goal.invariant_of-result
 invariant_of-result c =
     let is : c.meet_of-axes.result.items ≡ meet_of c.args.self.now c.args.r.now = cc in
     let ordered : All IsOrdered c.as_slice.result.now = search rules in
-    subst IsRegion (sym is) (IsRegion-meet_of c.args.self.now c.args.r.now c.requires c.axes.ensures.region c.axes-2.ensures.region (subst (All IsOrdered) (c.as_slice.ensures.value ∙ is) ordered))
+    subst IsRegion (sym is) (IsRegion-meet_of c.args.self.now c.args.r.now c.requires c.axes.ensures.region c.axes-2.ensures.region
+    (subst (All IsOrdered) (c.as_slice.ensures.value ∙ is) ordered))
 
 pub returns-clause-points : goal.returns-clause-points
 returns-clause-points c =

@@ -27,7 +27,8 @@ returns-in-Ok-clause-ordered g c =
 pub returns-in-Err-clause-value : goal.returns-in-Err-clause-value
 returns-in-Err-clause-value g c =
     let absent = absent-between row_major_total (places_of c.as_slice.result.now) c.in-Err.field-0 c.args.place.now.items c.in-Err.ensures.below c.in-Err.ensures.above in
-    let none = lookup-absent row_major c.self.inside.slots.items c.args.place.now.items (subst (λ slots. AllByRecursion (λ q. is_at (row_major c.args.place.now.items) q ≡ false) (places_of slots)) c.as_slice.ensures.value absent) in
+    let none = lookup-absent row_major c.self.inside.slots.items c.args.place.now.items
+    (subst (λ slots. AllByRecursion (λ q. is_at (row_major c.args.place.now.items) q ≡ false) (places_of slots)) c.as_slice.ensures.value absent) in
     sym none ∙ ap (λ index. value_at index.entries c.args.place.now.items) c.self.view_is
 
 pub returns-in-Err-clause-ordered : goal.returns-in-Err-clause-ordered

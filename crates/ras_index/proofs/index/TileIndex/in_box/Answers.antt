@@ -32,20 +32,26 @@ returns-clause-within g c = λ q.
 
 pub loop-slot-preserved : goal.loop-slot-preserved
 loop-slot-preserved g c =
-    let more : places_in c.args.places.now (entries_of (take (c.loop-slot.slot-index + 1) c.span-slot-items.result.now)) ≡ places_in c.args.places.now (entries_of (take c.loop-slot.slot-index c.span-slot-items.result.now)) ++ places_in c.args.places.now (entries_of (c.slot-item.result ∷ [])) = places_in_more c.args.places.now c.span-slot-items.result.now c.loop-slot.slot-index c.slot-item.result c.loop-slot-test.true c.slot-item.is in
+    let more : places_in c.args.places.now (entries_of (take (c.loop-slot.slot-index + 1) c.span-slot-items.result.now)) ≡ places_in c.args.places.now
+    (entries_of (take c.loop-slot.slot-index c.span-slot-items.result.now))
+    ++ places_in c.args.places.now (entries_of (c.slot-item.result ∷ [])) = places_in_more c.args.places.now c.span-slot-items.result.now c.loop-slot.slot-index
+    c.slot-item.result c.loop-slot-test.true c.slot-item.is in
     let one = c.is_filled_in.ensures in
     elim c.if-is_filled_in.branch [
       | then-is_filled_in+in_ok-clone+in_ok-push w ↦
-          let same : w.in_ok-clone.field-0.items ≡ c.slot-item.result.place.items = same_from_all_zip _ c.slot-item.result.place.items w.in_ok-clone.field-0.items w.in_ok-clone.ensures.cases (λ x y is. is) in
+          let same : w.in_ok-clone.field-0.items ≡ c.slot-item.result.place.items = same_from_all_zip _ c.slot-item.result.place.items w.in_ok-clone.field-0.items
+          w.in_ok-clone.ensures.cases (λ x y is. is) in
           ap (λ found. map (λ place. place.items) found.items) w.found-is ∙ ap (map (λ place. place.items)) w.in_ok-push.ensures.items
           ∙ map-append (λ place. place.items) c.loop-slot.found.items (w.in_ok-clone.field-0 ∷ [])
           ∙ ap (λ place. map (λ p. p.items) c.loop-slot.found.items ++ place ∷ []) same
           ∙ ap (λ places. places ++ c.slot-item.result.place.items ∷ []) c.loop-slot.invariant
-          ∙ ap (λ places. places_in c.args.places.now (entries_of (take c.loop-slot.slot-index c.span-slot-items.result.now)) ++ places) (sym (one ∙ ap (λ b. cond b (c.slot-item.result.place.items ∷ []) []) w.if-is_filled_in.true))
+          ∙ ap (λ places. places_in c.args.places.now (entries_of (take c.loop-slot.slot-index c.span-slot-items.result.now)) ++ places)
+          (sym (one ∙ ap (λ b. cond b (c.slot-item.result.place.items ∷ []) []) w.if-is_filled_in.true))
           ∙ sym more
       | else-is_filled_in w ↦
           ap (λ found. map (λ place. place.items) found.items) w.found-is ∙ c.loop-slot.invariant
           ∙ sym (append-nil (places_in c.args.places.now (entries_of (take c.loop-slot.slot-index c.span-slot-items.result.now))))
-          ∙ ap (λ places. places_in c.args.places.now (entries_of (take c.loop-slot.slot-index c.span-slot-items.result.now)) ++ places) (sym (one ∙ ap (λ b. cond b (c.slot-item.result.place.items ∷ []) []) w.if-is_filled_in.false))
+          ∙ ap (λ places. places_in c.args.places.now (entries_of (take c.loop-slot.slot-index c.span-slot-items.result.now)) ++ places)
+          (sym (one ∙ ap (λ b. cond b (c.slot-item.result.place.items ∷ []) []) w.if-is_filled_in.false))
           ∙ sym more
     ]

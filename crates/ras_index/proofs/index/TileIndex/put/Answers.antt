@@ -19,33 +19,40 @@ index_mut-requires g c =
 
 pub invariant_of-self : goal.invariant_of-self
 invariant_of-self g c =
-    let found = found-index c.as_slice.result.now c.self.inside.slots.items c.args.place.items c.find.result c.unwrap-i.result c.as_slice.ensures.value c.unwrap-i.ensures c.find.ensures.found in
+    let found = found-index c.as_slice.result.now c.self.inside.slots.items c.args.place.items c.find.result c.unwrap-i.result c.as_slice.ensures.value
+    c.unwrap-i.ensures c.find.ensures.found in
     let place = place-read c.self.inside.slots.items c.unwrap-i.result c.args.place.items c.index_mut.result.now found c.index_mut.ensures.value in
     sorted-written c.self.inside.slots.items c.unwrap-i.result c.args.place.items (record { place = c.index_mut.result.now.place; value = c.replace.new.self }) c.self.invariant found place
 
 pub returns-clause-value : goal.returns-clause-value
 returns-clause-value g c =
-    let found = found-index c.as_slice.result.now c.self.inside.slots.items c.args.place.items c.find.result c.unwrap-i.result c.as_slice.ensures.value c.unwrap-i.ensures c.find.ensures.found in
+    let found = found-index c.as_slice.result.now c.self.inside.slots.items c.args.place.items c.find.result c.unwrap-i.result c.as_slice.ensures.value
+    c.unwrap-i.ensures c.find.ensures.found in
     c.replace.ensures.value
     ∙ sym (value-read c.self.inside.slots.items c.unwrap-i.result c.args.place.items c.index_mut.result.now c.self.invariant found c.index_mut.ensures.value)
     ∙ ap (λ index. value_at index.entries c.args.place.items) c.self.view_is
 
 pub returns-clause-entries : goal.returns-clause-entries
 returns-clause-entries g c =
-    let found = found-index c.as_slice.result.now c.self.inside.slots.items c.args.place.items c.find.result c.unwrap-i.result c.as_slice.ensures.value c.unwrap-i.ensures c.find.ensures.found in
+    let found = found-index c.as_slice.result.now c.self.inside.slots.items c.args.place.items c.find.result c.unwrap-i.result c.as_slice.ensures.value
+    c.unwrap-i.ensures c.find.ensures.found in
     let place = place-read c.self.inside.slots.items c.unwrap-i.result c.args.place.items c.index_mut.result.now found c.index_mut.ensures.value in
-    entries-put c.self.inside.slots.items c.unwrap-i.result c.args.place.items (record { place = c.index_mut.result.now.place; value = c.replace.new.self }) c.self.invariant found place c.args.value c.replace.ensures.after
+    entries-put c.self.inside.slots.items c.unwrap-i.result c.args.place.items (record { place = c.index_mut.result.now.place; value = c.replace.new.self })
+    c.self.invariant found place c.args.value c.replace.ensures.after
     ∙ ap (λ index. insert_entry row_major index.entries c.args.place.items c.args.value) c.self.view_is
 
 pub returns-clause-ready : goal.returns-clause-ready
 returns-clause-ready g c = λ q ready.
-    let found = found-index c.as_slice.result.now c.self.inside.slots.items c.args.place.items c.find.result c.unwrap-i.result c.as_slice.ensures.value c.unwrap-i.ensures c.find.ensures.found in
+    let found = found-index c.as_slice.result.now c.self.inside.slots.items c.args.place.items c.find.result c.unwrap-i.result c.as_slice.ensures.value
+    c.unwrap-i.ensures c.find.ensures.found in
     let place = place-read c.self.inside.slots.items c.unwrap-i.result c.args.place.items c.index_mut.result.now found c.index_mut.ensures.value in
     ready-written c.self.inside.slots.items c.unwrap-i.result c.args.place.items (record { place = c.index_mut.result.now.place; value = c.replace.new.self }) c.self.invariant found place
     q (subst (λ index. IsReady index q) (sym c.self.view_is) ready)
 
 pub returns-clause-ordered : goal.returns-clause-ordered
 returns-clause-ordered g c =
-    let found = found-index c.as_slice.result.now c.self.inside.slots.items c.args.place.items c.find.result c.unwrap-i.result c.as_slice.ensures.value c.unwrap-i.ensures c.find.ensures.found in
+    let found = found-index c.as_slice.result.now c.self.inside.slots.items c.args.place.items c.find.result c.unwrap-i.result c.as_slice.ensures.value
+    c.unwrap-i.ensures c.find.ensures.found in
     let place = place-read c.self.inside.slots.items c.unwrap-i.result c.args.place.items c.index_mut.result.now found c.index_mut.ensures.value in
-    sorted-entries row_major _ (sorted-written c.self.inside.slots.items c.unwrap-i.result c.args.place.items (record { place = c.index_mut.result.now.place; value = c.replace.new.self }) c.self.invariant found place)
+    sorted-entries row_major _ (sorted-written c.self.inside.slots.items c.unwrap-i.result c.args.place.items
+    (record { place = c.index_mut.result.now.place; value = c.replace.new.self }) c.self.invariant found place)

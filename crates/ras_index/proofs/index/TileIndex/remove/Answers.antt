@@ -30,7 +30,8 @@ pub returns-in-Ok-clause-entries : goal.returns-in-Ok-clause-entries
 returns-in-Ok-clause-entries g c =
     let found = found-index c.as_slice.result.now c.self.inside.slots.items c.args.place.now.items c.find.result c.in-Ok.i c.as_slice.ensures.value c.in-Ok.is c.find.ensures.found in
     let place = place-read c.self.inside.slots.items c.in-Ok.i c.args.place.now.items c.index_mut.result.now found c.index_mut.ensures.value in
-    entries-removed c.self.inside.slots.items c.in-Ok.i c.args.place.now.items (record { place = c.index_mut.result.now.place; value = c.take.new.self }) c.self.invariant found place c.take.ensures.after
+    entries-removed c.self.inside.slots.items c.in-Ok.i c.args.place.now.items (record { place = c.index_mut.result.now.place; value = c.take.new.self })
+    c.self.invariant found place c.take.ensures.after
     ∙ ap (λ index. remove_entry (is_at (row_major c.args.place.now.items)) index.entries) c.self.view_is
 
 pub returns-in-Ok-clause-ready : goal.returns-in-Ok-clause-ready
@@ -44,12 +45,14 @@ pub returns-in-Ok-clause-ordered : goal.returns-in-Ok-clause-ordered
 returns-in-Ok-clause-ordered g c =
     let found = found-index c.as_slice.result.now c.self.inside.slots.items c.args.place.now.items c.find.result c.in-Ok.i c.as_slice.ensures.value c.in-Ok.is c.find.ensures.found in
     let place = place-read c.self.inside.slots.items c.in-Ok.i c.args.place.now.items c.index_mut.result.now found c.index_mut.ensures.value in
-    sorted-entries row_major _ (sorted-written c.self.inside.slots.items c.in-Ok.i c.args.place.now.items (record { place = c.index_mut.result.now.place; value = c.take.new.self }) c.self.invariant found place)
+    sorted-entries row_major _ (sorted-written c.self.inside.slots.items c.in-Ok.i c.args.place.now.items
+    (record { place = c.index_mut.result.now.place; value = c.take.new.self }) c.self.invariant found place)
 
 pub returns-in-Err-clause-value : goal.returns-in-Err-clause-value
 returns-in-Err-clause-value g c =
     let absent = absent-between row_major_total (places_of c.as_slice.result.now) c.in-Err.field-0 c.args.place.now.items c.in-Err.ensures.below c.in-Err.ensures.above in
-    let none = lookup-absent row_major c.self.inside.slots.items c.args.place.now.items (subst (λ slots. AllByRecursion (λ q. is_at (row_major c.args.place.now.items) q ≡ false) (places_of slots)) c.as_slice.ensures.value absent) in
+    let none = lookup-absent row_major c.self.inside.slots.items c.args.place.now.items
+    (subst (λ slots. AllByRecursion (λ q. is_at (row_major c.args.place.now.items) q ≡ false) (places_of slots)) c.as_slice.ensures.value absent) in
     sym none ∙ ap (λ index. value_at index.entries c.args.place.now.items) c.self.view_is
 
 pub returns-in-Err-clause-ordered : goal.returns-in-Err-clause-ordered
@@ -59,5 +62,6 @@ returns-in-Err-clause-ordered g c =
 pub returns-in-Err-clause-entries : goal.returns-in-Err-clause-entries
 returns-in-Err-clause-entries g c =
     let absent = absent-between row_major_total (places_of c.as_slice.result.now) c.in-Err.field-0 c.args.place.now.items c.in-Err.ensures.below c.in-Err.ensures.above in
-    let same = remove-absent row_major c.self.inside.slots.items c.args.place.now.items (subst (λ slots. AllByRecursion (λ q. is_at (row_major c.args.place.now.items) q ≡ false) (places_of slots)) c.as_slice.ensures.value absent) in
+    let same = remove-absent row_major c.self.inside.slots.items c.args.place.now.items
+    (subst (λ slots. AllByRecursion (λ q. is_at (row_major c.args.place.now.items) q ≡ false) (places_of slots)) c.as_slice.ensures.value absent) in
     subst (λ index. index.entries ≡ remove_entry (is_at (row_major c.args.place.now.items)) index.entries) c.self.view_is (sym same)

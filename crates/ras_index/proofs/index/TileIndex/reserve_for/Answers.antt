@@ -8,8 +8,10 @@ use Rattle.ras_index.proofs.index.TileIndex.reserve_for.Goals as goal
 
 pub returns-clause-made_ready : goal.returns-clause-made_ready
 returns-clause-made_ready g c =
-    let known = subst (λ slots. All (λ p. Contains (places_of slots) p.items ⊎ Contains c.in_ok-missing.missing.items p) c.args.places.now) c.as_slice.ensures.value c.in_ok-missing.ensures in
-    on_ok_weaker c.make_ready.result (all_ready c.self.inside.slots.items c.make_ready.new.slots.items c.args.places.now c.in_ok-missing.missing.items c.make_ready.ensures.kept known) c.make_ready.ensures.made
+    let known = subst (λ slots. All (λ p. Contains (places_of slots) p.items ⊎ Contains c.in_ok-missing.missing.items p) c.args.places.now) c.as_slice.ensures.value
+    c.in_ok-missing.ensures in
+    on_ok_weaker c.make_ready.result (all_ready c.self.inside.slots.items c.make_ready.new.slots.items c.args.places.now c.in_ok-missing.missing.items
+    c.make_ready.ensures.kept known) c.make_ready.ensures.made
 
 pub returns-clause-ready : goal.returns-clause-ready
 returns-clause-ready g c = λ q ready.

@@ -24,7 +24,8 @@ pub returns-clause-cell : goal.returns-clause-cell
 returns-clause-cell c =
     let within : c.args.place < length c.self.inside.nulls.items = omega (arith, c.requires, length-cells_of _ _ _ _ _ c.self.view_is) in
     let flag : slice_get c.self.inside.nulls.items c.args.place ≡ Some false = slice_get_read _ _ _ _ refl within c.index.ensures ∙ ap (λ b. Some b) c.if-index.false in
-    let kept : c.numbers_at.result.items ≡ take (stride_of c.self.inside.width) (drop (stride_of c.self.inside.width * c.args.place) c.self.inside.numbers.items) = c.numbers_at.ensures ∙ rw (c.stride.ensures, c.as_slice.ensures.value) refl in
+    let kept : c.numbers_at.result.items ≡ take (stride_of c.self.inside.width)
+    (drop (stride_of c.self.inside.width * c.args.place) c.self.inside.numbers.items) = c.numbers_at.ensures ∙ rw (c.stride.ensures, c.as_slice.ensures.value) refl in
     seen_at _ _ _ _ _ _ _ c.self.view_is flag ∙ ap (λ ns. Some (Value (record { items = ns }))) (sym kept)
 
 pub returns-clause-width : goal.returns-clause-width

@@ -18,7 +18,8 @@ pub invariant_of-self : goal.invariant_of-self
 invariant_of-self c =
     let left : length c.self.inside.nulls.items < c.self.inside.room = omega (arith, c.requires.room, length-cells_of _ _ _ _ _ c.self.view_is, ap (λ v. v.room) c.self.view_is) in
     let as_many : length c.args.numbers.now ≡ stride_of c.self.inside.width = c.requires.stride ∙ ap (λ v. min v.width 8) (sym c.self.view_is) in
-    let fits : HasWidth c.self.inside.width (cell_from c.args.is_null c.args.numbers.now) = subst (λ v. HasWidth v.width (cell_from c.args.is_null c.args.numbers.now)) (sym c.self.view_is) c.requires.width in
+    let fits : HasWidth c.self.inside.width (cell_from c.args.is_null c.args.numbers.now) = subst (λ v. HasWidth v.width (cell_from c.args.is_null c.args.numbers.now))
+    (sym c.self.view_is) c.requires.width in
     rw (pushed c.args.numbers.now refl c.unwrap.ensures c.extend_from_slice.ensures.items, c.push_reserved.ensures.items)
     (IsKept-append _ _ _ _ _ _ _ _ _ _ c.self.invariant left as_many fits c.extend_from_slice.ensures.capacity (omega (arith, c.push_reserved.ensures.capacity)))
 

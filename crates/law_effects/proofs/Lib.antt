@@ -1,0 +1,16 @@
+pub mod Checked
+pub mod Identifiers
+pub mod LockNames
+pub mod Others
+pub mod Parents
+pub mod Phases
+pub mod Plans
+pub mod Rows
+pub mod Shown
+pub mod Stores
+pub mod Targets
+pub mod Untouched
+pub mod Updated
+pub mod Validity
+pub mod Valid
+pub mod Written

@@ -1,0 +1,12 @@
+pub mod Among
+pub mod Counts
+pub mod Good
+pub mod Grants
+pub mod Legal
+pub mod Owners
+pub mod Runs
+pub mod Serializable
+pub mod Statements
+pub mod Stays
+pub mod WorkedEvents
+pub mod WorkedPrograms

@@ -1,0 +1,14 @@
+pub mod Agree
+pub mod ArrayParts
+pub mod SmallBounds
+pub mod Cuts
+pub mod Fitting
+pub mod FittingArrays
+pub mod FittingForms
+pub mod Moves
+pub mod Operands
+pub mod Outcomes
+pub mod Parts
+pub mod Rules
+pub mod Sound
+pub mod SoundBoxes

@@ -1,5 +1,0 @@
-use Rattle.ras_cell_laws.proofs.CellKinds.{tree-typed}
-use Rattle.ras_cell_laws.proofs.laws.cells_are_of_their_kind.Goals as goal
-
-pub returns : goal.returns
-returns c = λ sources variables scope tree shape p cell typed members small. tree-typed sources variables scope tree members small typed shape p cell

@@ -1,5 +1,0 @@
-use Rattle.ras_check_laws.proofs.Expressions.{expr-typed}
-use Rattle.ras_check_laws.proofs.laws.checked_expressions_are_well_typed.Goals as goal
-
-pub returns : goal.returns
-returns c = λ e scope x fits is. expr-typed e fits scope x is

@@ -1,5 +1,0 @@
-use Rattle.ras_grammar.proofs.Readings.{select_1}
-use Rattle.ras_grammar.proofs.laws.selecting_a_number_is_a_statement.Goals as goal
-
-pub returns : goal.returns
-returns c = select_1

@@ -1,4 +1,0 @@
-pub mod History
-pub mod Legal
-pub mod Serial
-pub mod Worked

@@ -1,2 +1,0 @@
-pub mod CheckedCases
-pub mod CheckedForms

@@ -1,0 +1,13 @@
+pub mod Check
+pub mod Database
+pub mod Eval
+pub mod Fits
+pub mod Fold
+pub mod Kinds
+pub mod Names
+pub mod Reach
+pub mod SetTypes
+pub mod Shape
+pub mod Tree
+pub mod WellTyped
+pub mod Worked

@@ -1,0 +1,4 @@
+pub mod CheckedCases
+pub mod CheckedForms
+pub mod Effects
+pub mod LongLists

@@ -1,0 +1,16 @@
+pub mod Agree
+pub mod CheckStatement
+pub mod Effects
+pub mod Limits
+pub mod Locks
+pub mod LongLists
+pub mod Machine
+pub mod Phases
+pub mod Plans
+pub mod ReachLaw
+pub mod Reply
+pub mod Rows
+pub mod Statement
+pub mod Validity
+pub mod WorkedChecks
+pub mod WorkedStatements
