@@ -1,0 +1,15 @@
+pub mod Good
+pub mod TokenTests
+pub mod Pieces
+pub mod Productions
+pub mod StatementsRead
+pub mod Ranks
+pub mod Takes
+pub mod CompletePieces
+pub mod CompleteProductions
+pub mod CompleteStatements
+pub mod Ends
+pub mod EachVerdict
+pub mod Unrolled
+pub mod SessionWords
+pub mod Shallow

@@ -1,0 +1,4 @@
+pub mod FirstWrong
+pub mod Readers
+pub mod Reading
+pub mod VerdictOf
