@@ -1,0 +1,5 @@
+pub mod Fronts
+pub mod Said
+pub mod Steps
+pub mod Values
+pub mod Walked

@@ -1,0 +1,21 @@
+use Rattle.std.proofs.Common.{◌≡◌, ◌≤◌}
+use Rattle.std.specs.List.{All}
+use Rattle.spec_grammar.specs.Tokens.{lexed}
+use Rattle.spec_grammar.specs.Weight.{weight_of}
+use Rattle.ras_syntax.specs.declared.limits.TheConstants.{MAX_WEIGHT}
+use Rattle.ras_parse.specs.Seen.{found_in, tokens_in, StandsIn, NextLiesIn}
+use Rattle.ras_parse.specs.Walk.{lexed_with}
+use Rattle.ras_parse.proofs.Walked.{before, left_of}
+use Rattle.ras_parse.proofs.reading.front_of.Given as goal
+
+abbrev pub invariant-loop-next : goal.invariant-loop-next
+invariant-loop-next l = record {
+  read : lexed l.text ≡ before (tokens_in l.text l.tokens.items) (lexed_with l.text (found_in l.text l.next));
+  within : NextLiesIn l.text 0 l.next;
+  stand : All (StandsIn l.text) l.tokens.items;
+  weighed : l.weight ≡ weight_of (tokens_in l.text l.tokens.items);
+  light : l.weight ≤ MAX_WEIGHT;
+}
+
+abbrev pub decreases-loop-next : goal.decreases-loop-next
+decreases-loop-next l = left_of l.text l.next

@@ -1,0 +1,87 @@
+ghost use Rattle.std.specs.Prelude.{◌≡◌, ◌≤◌, ◌↔◌, length, slice_range, IsTrue};
+
+use crate::tables::{is_word, weight_of_sign, weight_of_word};
+use ras_cells::Atom;
+use ras_syntax::{Span, SyntaxFault};
+
+/// A token and where it stands. Its bytes are those of the text from `span.from` to `span.to`.
+#[derive(Clone, Copy, Debug, PartialEq, Eq)]
+pub struct Token {
+    pub kind: TokenKind,
+    pub span: Span,
+}
+
+impl Token {
+    ghost use Rattle.spec_grammar.specs.Tokens as spec;
+    ghost use Rattle.spec_grammar.specs.Weight.{weight_of_kind};
+    ghost use Rattle.ras_parse.specs.Seen.{token_in, StandsIn, says, shows};
+
+    /// The token's bytes.
+    pub(crate) fn bytes<'a>(&self, text: &'a [u8]) -> &'a [u8]
+        requires { StandsIn text.now self.now }
+        ensures { result.now ≡ slice_range text.now self.now.span.from self.now.span.to }
+    {
+        &text[self.span.from as usize..self.span.to as usize]
+    }
+
+    /// Whether it is this reserved word, which is given in small letters.
+    pub(crate) fn is_word(&self, text: &[u8], word: &[u8]) -> bool
+        requires { StandsIn text.now self.now }
+        ensures test { result ≡ says word.now (token_in text.now self.now).kind }
+        ensures meaning { IsTrue result ↔ ((token_in text.now self.now).kind ≡ spec.word word.now) }
+    {
+        match self.kind {
+            TokenKind::Reserved => is_word(self.bytes(text), word),
+            _ => false,
+        }
+    }
+
+    /// Whether it is this sign.
+    pub(crate) fn is_sign(&self, text: &[u8], sign: &[u8]) -> bool
+        requires { StandsIn text.now self.now }
+        ensures test { result ≡ shows sign.now (token_in text.now self.now).kind }
+        ensures meaning { IsTrue result ↔ ((token_in text.now self.now).kind ≡ spec.sign sign.now) }
+    {
+        match self.kind {
+            TokenKind::Sign => self.bytes(text) == sign,
+            _ => false,
+        }
+    }
+
+    /// How much it weighs.
+    pub(crate) fn weight(&self, text: &[u8]) -> u32
+        requires { StandsIn text.now self.now }
+        ensures weight { result ≡ weight_of_kind (token_in text.now self.now).kind }
+        ensures most { result ≤ 2 }
+    {
+        let bytes = self.bytes(text);
+        match self.kind {
+            TokenKind::Reserved => weight_of_word(bytes),
+            TokenKind::Sign => weight_of_sign(bytes),
+            TokenKind::Name | TokenKind::Number { .. } => 0,
+        }
+    }
+}
+
+/// What a token is. The bytes of the span say which name, word or sign.
+#[derive(Clone, Copy, Debug, PartialEq, Eq)]
+pub enum TokenKind {
+    /// A name.
+    Name,
+    /// A reserved word, in any mix of large and small letters.
+    Reserved,
+    /// A number with the atom of its suffix; a number without a suffix is wide, and no suffix is.
+    Number { value: i64, atom: Atom },
+    /// A sign.
+    Sign,
+}
+
+/// What a text goes on with, behind blanks and comments.
+#[derive(Clone, Copy, Debug, PartialEq, Eq)]
+pub enum Next {
+    /// The text's end.
+    End,
+    Token(Token),
+    /// A fault of the token's own.
+    Fault(SyntaxFault),
+}
