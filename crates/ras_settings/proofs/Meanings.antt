@@ -94,7 +94,8 @@ means_one words a b (inr (word, given, form, means)) (inr (word', given', form',
     (subst (λ w. NumbersMean w (options_asked_by given) b) same.0 (subst (λ g. NumbersMean word' (options_asked_by g) b) same.1 means'))
 
 -- what the values of the words mean, the words mean
-pub means : (words : List ScheduleText) (values : Values) (result : Outcome) → HasSomeForm words → ((command : ScheduleText) (given : Given) → HasForm words command given → AreValues values command given)
+pub means : (words : List ScheduleText) (values : Values) (result : Outcome) → HasSomeForm words
+    → ((command : ScheduleText) (given : Given) → HasForm words command given → AreValues values command given)
     → NumbersMean values.command.now (options_asked values) result → Mean words result
 means words values result (command, given, form) found is =
     let values_are = found command given form in

@@ -289,7 +289,8 @@ whole first tail given differs pairs =
     let pending : Text × List Text = (codes "command", command ∷ []) in
     let end = walk_pairs given [] pending pairs (new_of given command) refl in
     let walked_to : walk args [] nothing_held words ≡ between end.end_rows end.end_pending = ap (λ w. fold (walked args []) w (flat_map pair_words given)) begun ∙ end.walked_to in
-    let passed : walk_passes top [] (walk_from nothing_held) words ≡ true = and_true _ _ (passes_name first tail ne) (ap (λ w. walk_passes top [] w (flat_map pair_words given)) begun ∙ end.passed) in
+    let passed : walk_passes top [] (walk_from nothing_held) words ≡ true = and_true _ _ (passes_name first tail ne)
+    (ap (λ w. walk_passes top [] w (flat_map pair_words given)) begun ∙ end.passed) in
     let rows : finished args (between end.end_rows end.end_pending).held ≡ rows_for command given = finish _ ∙ end.kept in
     let matched : matches_of words_app words ≡ rows_for command given = ap (λ (w : Walk). finished args w.held) walked_to ∙ rows in
     record {

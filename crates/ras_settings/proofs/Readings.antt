@@ -394,7 +394,8 @@ reads-others (other ∷ others) turns left item small all within =
     let item_read = reads-item (turns ++ turn_of item ∷ []) (left - (turn_of item).1) other (omega arith) all.0 (omega arith) in
     let next = reads-others others (turns ++ turn_of item ∷ []) (left - (turn_of item).1) other (omega arith) all.1 (omega arith) in
     let text = flat_map (λ y. codes "," ++ item_text y) others in
-    let read : read_from (at turns left (progress_of item)) ((codes "," ++ item_text other) ++ text) ≡ read_from (at (turns ++ turn_of item ∷ []) (left - (turn_of item).1) (progress_of other)) text =
+    let read : read_from (at turns left (progress_of item)) ((codes "," ++ item_text other) ++ text) ≡ read_from
+    (at (turns ++ turn_of item ∷ []) (left - (turn_of item).1) (progress_of other)) text =
     ap (option_and_then (λ r. read_from r (item_text other ++ text))) comma_read ∙ then-read after _ (item_text other) text item_read in
     (next.0, read ∙ next.1, next.2 ∙ ap Some (append_assoc turns (turn_of item ∷ []) (map turn_of (other ∷ others))))
 

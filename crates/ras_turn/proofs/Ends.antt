@@ -17,7 +17,8 @@ use Rattle.ras_turn.proofs.Steps.{others_fit}
 
 -- two seats, one of which holds the turn and the other not
 held_elsewhere : {E C : Type 0} (views : List (View E C)) (id j k : ℕ) (v : View E C) → get_elem? views id ≡ some v → ¬ (v.stage ≡ Holding) → HoldsTurn views j k → j ≢ id
-held_elsewhere {E} {C} views id j k v at never h same = let e : h.view ≡ v = some-injective h.view v (sym h.at ∙ ap (λ (i : ℕ). get_elem? views i) same ∙ at) in never (ap (λ (u : View E C). u.stage) (sym e) ∙ h.stage)
+held_elsewhere {E} {C} views id j k v at never h same =
+    let e : h.view ≡ v = some-injective h.view v (sym h.at ∙ ap (λ (i : ℕ). get_elem? views i) same ∙ at) in never (ap (λ (u : View E C). u.stage) (sym e) ∙ h.stage)
 
 module _ {S E C : Type 0} (entries : S → List (ℕ × E)) (charter : S → C) (n : ℕ) where
   -- the table at the start
@@ -36,8 +37,10 @@ module _ {S E C : Type 0} (entries : S → List (ℕ × E)) (charter : S → C) 
     taken = λ k no. absurd (omega arith);
   }
 
-  pub opens_as : (x start : S) (slots : List (Option S)) → entries x ≡ [] → start ≡ x → slots ≡ Some x ∷ [] → IsTurned entries charter n (charter start) (opening (0 ∷ 0 ∷ []) slots (dealer 0 (Some (charter start))))
-  opens_as x start slots empty is laid = subst (λ (u : S × List (Option S)). IsTurned entries charter n (charter u.0) (opening (0 ∷ 0 ∷ []) u.1 (dealer 0 (Some (charter u.0))))) (λ i. (sym is i, sym laid i)) (opens x empty)
+  pub opens_as : (x start : S) (slots : List (Option S)) → entries x ≡ [] → start ≡ x → slots ≡ Some x ∷ []
+      → IsTurned entries charter n (charter start) (opening (0 ∷ 0 ∷ []) slots (dealer 0 (Some (charter start))))
+  opens_as x start slots empty is laid =
+      subst (λ (u : S × List (Option S)). IsTurned entries charter n (charter u.0) (opening (0 ∷ 0 ∷ []) u.1 (dealer 0 (Some (charter u.0))))) (λ i. (sym is i, sym laid i)) (opens x empty)
 
   module _ (c : C) where
     -- the dealer gives out the next pass
@@ -77,12 +80,21 @@ module _ {S E C : Type 0} (entries : S → List (ℕ × E)) (charter : S → C) 
           taken = λ k same. let t = r.taken k same in
               let h = t.1 in
               let there : r.seat k ≢ id = held_elsewhere s.views id (r.seat k) k (dealer i ch) at (λ e. (cc)) h in
-              let below : k < r.next = t.0 in
-              (omega arith, record { view = h.view; at = subst (λ (y : ℕ). get_elem? (vs ++ right ∷ []) y ≡ some h.view) (sym (old k below)) (at_longer vs (right ∷ []) (r.seat k) h.view (set_else s.views id (r.seat k) left there ∙ h.at)); stage = h.stage; number = h.number });
+              let below : k < r.next = t.0 in (
+                omega arith,
+                record {
+                  view = h.view;
+                  at = subst (λ (y : ℕ). get_elem? (vs ++ right ∷ []) y ≡ some h.view) (sym (old k below))
+                      (at_longer vs (right ∷ []) (r.seat k) h.view (set_else s.views id (r.seat k) left there ∙ h.at));
+                  stage = h.stage;
+                  number = h.number;
+                },
+              );
         }
 
     pub deals_as : (id i : ℕ) (v : View E C) → v ≡ dealer i v.charter → i < n → Splits (IsTurned entries charter n c) id v (dealer (v.number + 1) v.charter) (idle v.number [] [] v.charter)
-    deals_as id i v is near = subst (λ (u : View E C). Splits (IsTurned entries charter n c) id u (dealer (u.number + 1) u.charter) (idle u.number [] [] u.charter)) (sym is) (deals id i v.charter near)
+    deals_as id i v is near = subst (λ (u : View E C). Splits (IsTurned entries charter n c) id u (dealer (u.number + 1) u.charter) (idle u.number [] [] u.charter))
+        (sym is) (deals id i v.charter near)
 
     -- a seat comes that takes the passes in
     pub collects : (slots : ℕ) → Enters (IsTurned entries charter n c) slots 0 (λ _ w. w ≡ collector [])
@@ -99,7 +111,8 @@ module _ {S E C : Type 0} (entries : S → List (ℕ × E)) (charter : S → C) 
         unmade = r.unmade;
         each = each_snoc (λ j v. Fits r.log c r.turn r.seat r.dealing r.next j v v.stage) s.views (collector []) tt r.each;
         free = r.free;
-        taken = λ k same. let t = r.taken k same in let h = t.1 in (t.0, record { view = h.view; at = at_longer s.views (collector [] ∷ []) (r.seat k) h.view h.at; stage = h.stage; number = h.number });
+        taken = λ k same. let t = r.taken k same in let h = t.1 in
+            (t.0, record { view = h.view; at = at_longer s.views (collector [] ∷ []) (r.seat k) h.view h.at; stage = h.stage; number = h.number });
       },
       refl,
     )
@@ -150,15 +163,18 @@ module _ {S E C : Type 0} (entries : S → List (ℕ × E)) (charter : S → C) 
                 t.0,
                 record {
                   view = h.view;
-                  at = subst (λ (y : ℕ). get_elem? (set (set s.views id both) other spent) y ≡ some h.view) (sym (old i (r.seat i) not_other refl)) (set_else (set s.views id both) other (r.seat i) spent not_other ∙ set_else s.views id (r.seat i) both not_id ∙ h.at);
+                  at = subst (λ (y : ℕ). get_elem? (set (set s.views id both) other spent) y ≡ some h.view) (sym (old i (r.seat i) not_other refl))
+                      (set_else (set s.views id both) other (r.seat i) spent not_other ∙ set_else s.views id (r.seat i) both not_id ∙ h.at);
                   stage = h.stage;
                   number = h.number;
                 },
               );
         }
 
-    pub gathers_as : (id other k : ℕ) (v w : View E C) → v ≡ collector v.joined → w ≡ idle k w.seen w.own w.charter → Joins (IsTurned entries charter n c) id v other w (collector (known w ∷ v.joined)) spent
-    gathers_as id other k v w one two = subst (λ (u : View E C × View E C). Joins (IsTurned entries charter n c) id u.0 other u.1 (collector (known u.1 ∷ u.0.joined)) spent) (λ i. (sym one i, sym two i))
+    pub gathers_as : (id other k : ℕ) (v w : View E C) → v ≡ collector v.joined → w ≡ idle k w.seen w.own w.charter
+        → Joins (IsTurned entries charter n c) id v other w (collector (known w ∷ v.joined)) spent
+    gathers_as id other k v w one two = subst (λ (u : View E C × View E C). Joins (IsTurned entries charter n c) id u.0 other u.1 (collector (known u.1 ∷ u.0.joined))
+        spent) (λ i. (sym one i, sym two i))
         (gathers id other k v.joined w.seen w.own w.charter)
 
 -- passes that were taken in, by what was known of each
@@ -181,7 +197,8 @@ pub record IsEnded {A S E C : Type 0} (entries : S → List (ℕ × E)) (charter
   pub makers : (k : ℕ) → n ≤ k → made_by k (entries x) ≡ []
 
 module _ {A S E C : Type 0} (entries : S → List (ℕ × E)) (charter : S → C) (n : ℕ) (c : C) (f : A → Known E) (xs : List A) where
-  turn_free : (s : State (Option S) (View E C)) (r : IsTurned entries charter n c s) (id : ℕ) → get_elem? s.views id ≡ some (collector (map f xs)) → ((k : ℕ) → k < n → (i : ℕ) × (i < length xs) × HoldsAt (λ (x : A). (f x).number ≡ k) xs i)
+  turn_free : (s : State (Option S) (View E C)) (r : IsTurned entries charter n c s) (id : ℕ) → get_elem? s.views id ≡ some (collector (map f xs))
+      → ((k : ℕ) → k < n → (i : ℕ) × (i < length xs) × HoldsAt (λ (x : A). (f x).number ≡ k) xs i)
       → (t : ℕ) → r.turn ≡ t → r.turn ≡ 0
   turn_free s r id at all zero is = is
   turn_free s r id at all (suc k) is =
@@ -218,7 +235,8 @@ module _ {A S E C : Type 0} (entries : S → List (ℕ × E)) (charter : S → C
       → (x : S) × (get_elem? slots 0 ≡ some (Some x)) × IsEnded entries charter n c f xs x
   closes id v words slots is all end = let s = end.0 in let e = ends s end.1.0 id (end.1.1 ∙ ap some is) all in (e.0, end.4 0 (Some e.0) e.1, e.2)
 
-  pub taken_out : (slots : List (Option S)) (home : Option S) (y : S) → (x : S) × (get_elem? slots 0 ≡ some (Some x)) × IsEnded entries charter n c f xs x → get_elem? slots 0 ≡ some home → home ≡ Some y → IsEnded entries charter n c f xs y
+  pub taken_out : (slots : List (Option S)) (home : Option S) (y : S) → (x : S) × (get_elem? slots 0 ≡ some (Some x)) × IsEnded entries charter n c f xs x
+      → get_elem? slots 0 ≡ some home → home ≡ Some y → IsEnded entries charter n c f xs y
   taken_out slots home y e at is = let same : e.0 ≡ y = (cc (e.1, at, is)) in subst (λ (x : S). IsEnded entries charter n c f xs x) same e.2
 
   pub some_home : (slots : List (Option S)) (home : Option S) → (x : S) × (get_elem? slots 0 ≡ some (Some x)) × IsEnded entries charter n c f xs x → get_elem? slots 0 ≡ some home → IsSome home
@@ -232,9 +250,11 @@ pub gathered : {E C : Type 0} (ks : List (Known E)) (w : View E C) → w ≡ col
 gathered {E} {C} ks w is = is ∙ ap (λ (js : List (Known E)). collector js) (sym (ap (λ (u : View E C). u.joined) is))
 
 -- one more pass, the last that was left, is taken in
-pub gathered_one : {A E C : Type 0} (f : A → Known E) (all left left' : List A) (x : A) (js : List (Known E)) (k : Known E) (w : View E C) → map f all ≡ map f left ++ js → left ≡ left' ++ x ∷ [] → w ≡ collector (k ∷ js) → k ≡ f x → map f all ≡ map f left' ++ w.joined
+pub gathered_one : {A E C : Type 0} (f : A → Known E) (all left left' : List A) (x : A) (js : List (Known E)) (k : Known E) (w : View E C) → map f all ≡ map f left
+    ++ js → left ≡ left' ++ x ∷ [] → w ≡ collector (k ∷ js) → k ≡ f x → map f all ≡ map f left' ++ w.joined
 gathered_one {A} {E} {C} f all left left' x js k w kept popped is same =
-    kept ∙ ap (λ (xs : List A). map f xs ++ js) popped ∙ map_back f left' x js ∙ (λ i. map f left' ++ sym same i ∷ js) ∙ ap (λ (ks : List (Known E)). map f left' ++ ks) (sym (ap (λ (u : View E C). u.joined) is))
+    kept ∙ ap (λ (xs : List A). map f xs ++ js) popped ∙ map_back f left' x js ∙ (λ i. map f left' ++ sym same i ∷ js)
+    ∙ ap (λ (ks : List (Known E)). map f left' ++ ks) (sym (ap (λ (u : View E C). u.joined) is))
 
 pub known_as : {E C : Type 0} (v w : View E C) (k : ℕ) → v ≡ w → w.number ≡ k → known v ≡ record { number = k; seen = w.seen; own = w.own }
 known_as {E} {C} v w k is number = ap (λ (u : View E C). known u) is ∙ (λ i. record { number = number i; seen = w.seen; own = w.own })

@@ -25,7 +25,8 @@ module _ {A : Type 0} where
   -- what holds of the place that was set and of every other one holds of each
   pub each_set : (P : ℕ → A → Type 0) (l : List A) (i : ℕ) (a : A) → P i a → ((j : ℕ) (b : A) → j ≢ i → get_elem? l j ≡ some b → P j b)
       → (j : ℕ) (b : A) → get_elem? (set l i a) j ≡ some b → P j b
-  each_set P l i a here there j b e = ⊎_elim (λ (t : (j ≡ i) × (a ≡ b)). subst (λ (y : ℕ × A). P y.0 y.1) (λ k. (sym t.0 k, t.1 k)) here) (λ (t : (j ≢ i) × (get_elem? l j ≡ some b)). there j b t.0 t.1) (at_set l i j a b e)
+  each_set P l i a here there j b e =
+      ⊎_elim (λ (t : (j ≡ i) × (a ≡ b)). subst (λ (y : ℕ × A). P y.0 y.1) (λ k. (sym t.0 k, t.1 k)) here) (λ (t : (j ≢ i) × (get_elem? l j ≡ some b)). there j b t.0 t.1) (at_set l i j a b e)
 
   pub each_snoc : (P : ℕ → A → Type 0) (l : List A) (a : A) → P (length l) a → ((j : ℕ) (b : A) → get_elem? l j ≡ some b → P j b)
       → (j : ℕ) (b : A) → get_elem? (l ++ a ∷ []) j ≡ some b → P j b
@@ -69,7 +70,8 @@ module _ {E : Type 0} where
       ap (λ (b : Bool). cond b (e ∷ made_by j es) (made_by j es)) (ne_eqb e.0 j (λ h. ne (sym h ∙ here))) ∙ made_by-other k j es ne (λ i d h. all (suc i) d (omega arith))
 
   pub made_by-kept : (k j : ℕ) (a b : List (ℕ × E)) → j ≢ k → Extends k a b → made_by j b ≡ made_by j a
-  made_by-kept k j a b ne x = ap (made_by j) x.1 ∙ filter-append (λ (e : ℕ × E). eqb e.0 j) a x.0 ∙ ap (λ (xs : List (ℕ × E)). made_by j a ++ xs) (made_by-other k j x.0 ne x.2) ∙ append-nil (made_by j a)
+  made_by-kept k j a b ne x =
+      ap (made_by j) x.1 ∙ filter-append (λ (e : ℕ × E). eqb e.0 j) a x.0 ∙ ap (λ (xs : List (ℕ × E)). made_by j a ++ xs) (made_by-other k j x.0 ne x.2) ∙ append-nil (made_by j a)
 
   pub made_by-more : (k : ℕ) (a b : List (ℕ × E)) (x : Extends k a b) → made_by k b ≡ made_by k a ++ x.0
   made_by-more k a b x = ap (made_by k) x.1 ∙ filter-append (λ (e : ℕ × E). eqb e.0 k) a x.0 ∙ ap (λ (xs : List (ℕ × E)). made_by k a ++ xs) (made_by-own k x.0 x.2)

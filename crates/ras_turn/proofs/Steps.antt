@@ -59,7 +59,8 @@ same_number : (a b t : ℕ) → t ≡ a + 1 → t ≡ b + 1 → a ≡ b
 same_number a b t p q = omega arith
 
 module _ {S E C : Type 0} (entries : S → List (ℕ × E)) (charter : S → C) (n : ℕ) (c : C) where
-  wins : (s : State (Option S) (View E C)) (r : IsTurned entries charter n c s) (id k : ℕ) (seen own : List (ℕ × E)) (ch : Option C) (xs : List (ℕ × Option S)) → get_elem? s.views id ≡ some (idle k seen own ch) → r.turn ≡ 0
+  wins : (s : State (Option S) (View E C)) (r : IsTurned entries charter n c s) (id k : ℕ) (seen own : List (ℕ × E)) (ch : Option C) (xs : List (ℕ × Option S))
+      → get_elem? s.views id ≡ some (idle k seen own ch) → r.turn ≡ 0
       → (w : View E C) × (a : Act (Option S)) × Valid s.homes xs a
       × IsTurned entries charter n c record { words = (k + 1) ∷ length r.log ∷ []; homes = homes_after s.homes xs a; views = set s.views id w }
       × Wins entries charter (idle k seen own ch, xs) (w, carried_after xs a)
@@ -96,8 +97,15 @@ module _ {S E C : Type 0} (entries : S → List (ℕ × E)) (charter : S → C) 
               } v v.stage (r.each j v e));
           free = λ no. absurd (omega arith);
           taken = λ i same. let e : i ≡ k = same_number i k (k + 1) same refl in
-              subst (λ (y : ℕ). (y < r.next) × HoldsTurn (set s.views id w) (r.seat y) y) (sym e)
-              (p.dealt, record { view = w; at = subst (λ (y : ℕ). get_elem? (set s.views id w) y ≡ some w) (sym p.seated) (set_at s.views id (idle k seen own ch) w at); stage = refl; number = refl });
+              subst (λ (y : ℕ). (y < r.next) × HoldsTurn (set s.views id w) (r.seat y) y) (sym e) (
+                p.dealt,
+                record {
+                  view = w;
+                  at = subst (λ (y : ℕ). get_elem? (set s.views id w) y ≡ some w) (sym p.seated) (set_at s.views id (idle k seen own ch) w at);
+                  stage = refl;
+                  number = refl;
+                },
+              );
         },
         record {
           state = x;
@@ -109,7 +117,8 @@ module _ {S E C : Type 0} (entries : S → List (ℕ × E)) (charter : S → C) 
         },
       )
 
-  loses : (s : State (Option S) (View E C)) (r : IsTurned entries charter n c s) (id k : ℕ) (seen own : List (ℕ × E)) (ch : Option C) (xs : List (ℕ × Option S)) → get_elem? s.views id ≡ some (idle k seen own ch)
+  loses : (s : State (Option S) (View E C)) (r : IsTurned entries charter n c s) (id k : ℕ) (seen own : List (ℕ × E)) (ch : Option C) (xs : List (ℕ × Option S))
+      → get_elem? s.views id ≡ some (idle k seen own ch)
       → (w : View E C) × (a : Act (Option S)) × Valid s.homes xs a
       × IsTurned entries charter n c record { words = r.turn ∷ length r.log ∷ []; homes = homes_after s.homes xs a; views = set s.views id w }
       × (let m : Me (Option S) (View E C) = (w, carried_after xs a) in m ≡ (idle k seen own ch, xs))
@@ -117,7 +126,8 @@ module _ {S E C : Type 0} (entries : S → List (ℕ × E)) (charter : S → C) 
     idle k seen own ch,
     keeps,
     tt,
-    subst (λ (z : List ℕ × List (View E C)). IsTurned entries charter n c record { words = z.0; homes = s.homes; views = z.1 }) (λ i. (r.words i, sym (set_again s.views id (idle k seen own ch) at) i)) r,
+    subst (λ (z : List ℕ × List (View E C)). IsTurned entries charter n c record { words = z.0; homes = s.homes; views = z.1 })
+        (λ i. (r.words i, sym (set_again s.views id (idle k seen own ch) at) i)) r,
     refl,
   )
 
@@ -139,7 +149,8 @@ module _ {S E C : Type 0} (entries : S → List (ℕ × E)) (charter : S → C) 
 
   pub takes_turn_as : (slots id k : ℕ) (me : Me (Option S) (View E C)) → me.0 ≡ idle k me.0.seen me.0.own me.0.charter
       → Allows (IsTurned entries charter n c) slots id me 0 (λ t. either (eqb t 0) (k + 1) t) (λ t m. TakesTurn entries charter me t m)
-  takes_turn_as slots id k me is = subst (λ (v : View E C). Allows (IsTurned entries charter n c) slots id (v, me.1) 0 (λ t. either (eqb t 0) (k + 1) t) (λ t m. TakesTurn entries charter (v, me.1) t m)) (sym is)
+  takes_turn_as slots id k me is =
+      subst (λ (v : View E C). Allows (IsTurned entries charter n c) slots id (v, me.1) 0 (λ t. either (eqb t 0) (k + 1) t) (λ t m. TakesTurn entries charter (v, me.1) t m)) (sym is)
       (takes_turn slots id k me.0.seen me.0.own me.0.charter me.1)
 
   -- who holds the turn finds the length of all that it has seen
@@ -155,7 +166,8 @@ module _ {S E C : Type 0} (entries : S → List (ℕ × E)) (charter : S → C) 
         holding k seen own ch,
         keeps,
         tt,
-        subst (λ (z : List ℕ × List (View E C)). IsTurned entries charter n c record { words = z.0; homes = s.homes; views = z.1 }) (λ i. (r.words i, sym (set_again s.views id (holding k seen own ch) at) i)) r,
+        subst (λ (z : List ℕ × List (View E C)). IsTurned entries charter n c record { words = z.0; homes = s.homes; views = z.1 })
+            (λ i. (r.words i, sym (set_again s.views id (holding k seen own ch) at) i)) r,
         (ap length (sym here.2), refl),
       )
 
@@ -165,7 +177,8 @@ module _ {S E C : Type 0} (entries : S → List (ℕ × E)) (charter : S → C) 
       (finds_length slots id k me.0.seen me.0.own me.0.charter me.1)
 
   -- the seat of the pass that holds the turn, after a step that keeps it
-  still_held : (s : State (Option S) (View E C)) (r : IsTurned entries charter n c s) (id k : ℕ) (v w : View E C) → get_elem? s.views id ≡ some v → w.stage ≡ Holding → w.number ≡ k → r.seat k ≡ id → k < r.next → r.turn ≡ k + 1
+  still_held : (s : State (Option S) (View E C)) (r : IsTurned entries charter n c s) (id k : ℕ) (v w : View E C) → get_elem? s.views id ≡ some v → w.stage ≡ Holding
+      → w.number ≡ k → r.seat k ≡ id → k < r.next → r.turn ≡ k + 1
       → (i : ℕ) → r.turn ≡ i + 1 → (i < r.next) × HoldsTurn (set s.views id w) (r.seat i) i
   still_held s r id k v w at stage number sits dealt turn i same = let e : i ≡ k = same_number i k r.turn same turn in
       subst (λ (y : ℕ). (y < r.next) × HoldsTurn (set s.views id w) (r.seat y) y) (sym e)
@@ -223,7 +236,8 @@ module _ {S E C : Type 0} (entries : S → List (ℕ × E)) (charter : S → C) 
         (refl, refl),
       )
 
-  pub adds_as : (slots id k new : ℕ) (me : Me (Option S) (View E C)) (v : View E C) (y : S) → (let m : Me (Option S) (View E C) = (v, (0, Some y) ∷ []) in me ≡ m) → v ≡ holding k v.seen v.own v.charter → Extends k v.seen (entries y) → new ≡ length (entries y)
+  pub adds_as : (slots id k new : ℕ) (me : Me (Option S) (View E C)) (v : View E C) (y : S) → (let m : Me (Option S) (View E C) = (v, (0, Some y) ∷ []) in me ≡ m)
+      → v ≡ holding k v.seen v.own v.charter → Extends k v.seen (entries y) → new ≡ length (entries y)
       → Allows (IsTurned entries charter n c) slots id me 1 (λ _. new) (λ _ m. Adds entries me m)
   adds_as slots id k new me v y at is more count = subst (λ (u : Me (Option S) (View E C)). Allows (IsTurned entries charter n c) slots id u 1 (λ _. new) (λ _ m. Adds entries u m)) (sym at)
       (subst (λ (u : View E C). Allows (IsTurned entries charter n c) slots id (u, (0, Some y) ∷ []) 1 (λ _. new) (λ _ m. Adds entries (u, (0, Some y) ∷ []) m)) (sym is)
@@ -257,8 +271,12 @@ module _ {S E C : Type 0} (entries : S → List (ℕ × E)) (charter : S → C) 
           words = refl;
           few = r.few;
           unmade = r.unmade;
-          each = each_set (λ j v. Fits r.log c 0 r.seat r.dealing r.next j v v.stage) s.views id w
-              (record { seated = p.seated; dealt = p.dealt; charter = p.charter; own = p.own }, (λ no. absurd (omega arith)), subst (λ (l : List (ℕ × E)). IsPrefix l r.log) (sym known) (whole r.log))
+          each = each_set (λ j v. Fits r.log c 0 r.seat r.dealing r.next j v v.stage) s.views id w (
+            record { seated = p.seated; dealt = p.dealt; charter = p.charter; own = p.own },
+            (λ no. absurd (omega arith)),
+            subst
+                (λ (l : List (ℕ × E)). IsPrefix l r.log) (sym known) (whole r.log),
+          )
               (λ j v other e. let out = apart s r id k p.seated turn j other in others_fit r.log r.log c r.turn 0 r.seat r.seat r.dealing r.next r.next j
               record {
                 seats = λ _ h _. h;
@@ -275,9 +293,11 @@ module _ {S E C : Type 0} (entries : S → List (ℕ × E)) (charter : S → C) 
         (refl, refl),
       )
 
-  pub releases_as : (slots id k : ℕ) (me : Me (Option S) (View E C)) (y : S) → slots ≡ 1 → me.0 ≡ holding k me.0.seen me.0.own me.0.charter → me.1 ≡ (0, Some y) ∷ [] → entries y ≡ me.0.seen → me.0.charter ≡ Some (charter y)
+  pub releases_as : (slots id k : ℕ) (me : Me (Option S) (View E C)) (y : S) → slots ≡ 1 → me.0 ≡ holding k me.0.seen me.0.own me.0.charter → me.1 ≡ (0, Some y) ∷ []
+      → entries y ≡ me.0.seen → me.0.charter ≡ Some (charter y)
       → Allows (IsTurned entries charter n c) slots id me 0 (λ _. 0) (λ _ m. Releases me m)
-  releases_as slots id k me y one is out seen same = subst (λ (u : ℕ × Me (Option S) (View E C)). Allows (IsTurned entries charter n c) u.0 id u.1 0 (λ _. 0) (λ _ m. Releases u.1 m)) (λ i. (sym one i, (sym is i, sym out i)))
+  releases_as slots id k me y one is out seen same =
+      subst (λ (u : ℕ × Me (Option S) (View E C)). Allows (IsTurned entries charter n c) u.0 id u.1 0 (λ _. 0) (λ _ m. Releases u.1 m)) (λ i. (sym one i, (sym is i, sym out i)))
       (releases id k me.0.seen me.0.own me.0.charter y seen same)
 
 module _ {S E C : Type 0} where

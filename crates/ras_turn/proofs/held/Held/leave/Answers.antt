@@ -8,4 +8,5 @@ returns-clause-extended g c =
     let self = c.args.self in
     let later = g.S.Chronicle.entries c.args.state in
     let view = ap (λ v. v.own) c.let_go-seat.ensures.view ∙ ap (λ v. v.own) c.put_back-seat.ensures.view in
-    view ∙ ap (λ k. made_by k later) (ap (λ v. v.number) self.holding) ∙ made_by-extended self.number self.seat.me.0.seen later c.requires.list ∙ ap (λ own. own ++ drop (length self.seat.me.0.seen) later) (sym self.own_is)
+    view ∙ ap (λ k. made_by k later) (ap (λ v. v.number) self.holding) ∙ made_by-extended self.number self.seat.me.0.seen later c.requires.list
+    ∙ ap (λ own. own ++ drop (length self.seat.me.0.seen) later) (sym self.own_is)

@@ -7,7 +7,8 @@ unwrap-requires g c =
     let entries = g.S.Chronicle.entries in
     let charter = g.S.Chronicle.charter in
     let closed = c.close_with-closed.result in
-    let end = closes entries charter _ _ known_of c.args.passes.items _ _ closed.words.items closed.slots.items c.gather-seat.ensures.view c.requires.numbers c.close_with-closed.ensures.values.2 in
+    let end = closes entries charter _ _ known_of c.args.passes.items _ _ closed.words.items closed.slots.items c.gather-seat.ensures.view c.requires.numbers
+    c.close_with-closed.ensures.values.2 in
     some_home entries charter _ _ known_of c.args.passes.items closed.slots.items c.take-home.result end c.take-home.ensures.value
 
 pub returns-clause-charter : goal.returns-clause-charter
@@ -15,7 +16,8 @@ returns-clause-charter g c =
     let entries = g.S.Chronicle.entries in
     let charter = g.S.Chronicle.charter in
     let closed = c.close_with-closed.result in
-    let end = closes entries charter _ _ known_of c.args.passes.items _ _ closed.words.items closed.slots.items c.gather-seat.ensures.view c.requires.numbers c.close_with-closed.ensures.values.2 in
+    let end = closes entries charter _ _ known_of c.args.passes.items _ _ closed.words.items closed.slots.items c.gather-seat.ensures.view c.requires.numbers
+    c.close_with-closed.ensures.values.2 in
     (taken_out entries charter _ _ known_of c.args.passes.items closed.slots.items c.take-home.result c.unwrap.result end c.take-home.ensures.value c.unwrap.ensures).charter_is
 
 pub returns-clause-own : goal.returns-clause-own
@@ -23,7 +25,8 @@ returns-clause-own g c =
     let entries = g.S.Chronicle.entries in
     let charter = g.S.Chronicle.charter in
     let closed = c.close_with-closed.result in
-    let end = closes entries charter _ _ known_of c.args.passes.items _ _ closed.words.items closed.slots.items c.gather-seat.ensures.view c.requires.numbers c.close_with-closed.ensures.values.2 in
+    let end = closes entries charter _ _ known_of c.args.passes.items _ _ closed.words.items closed.slots.items c.gather-seat.ensures.view c.requires.numbers
+    c.close_with-closed.ensures.values.2 in
     (taken_out entries charter _ _ known_of c.args.passes.items closed.slots.items c.take-home.result c.unwrap.result end c.take-home.ensures.value c.unwrap.ensures).own
 
 pub returns-clause-seen : goal.returns-clause-seen
@@ -31,7 +34,8 @@ returns-clause-seen g c =
     let entries = g.S.Chronicle.entries in
     let charter = g.S.Chronicle.charter in
     let closed = c.close_with-closed.result in
-    let end = closes entries charter _ _ known_of c.args.passes.items _ _ closed.words.items closed.slots.items c.gather-seat.ensures.view c.requires.numbers c.close_with-closed.ensures.values.2 in
+    let end = closes entries charter _ _ known_of c.args.passes.items _ _ closed.words.items closed.slots.items c.gather-seat.ensures.view c.requires.numbers
+    c.close_with-closed.ensures.values.2 in
     (taken_out entries charter _ _ known_of c.args.passes.items closed.slots.items c.take-home.result c.unwrap.result end c.take-home.ensures.value c.unwrap.ensures).seen
 
 pub returns-clause-makers : goal.returns-clause-makers
@@ -39,5 +43,6 @@ returns-clause-makers g c =
     let entries = g.S.Chronicle.entries in
     let charter = g.S.Chronicle.charter in
     let closed = c.close_with-closed.result in
-    let end = closes entries charter _ _ known_of c.args.passes.items _ _ closed.words.items closed.slots.items c.gather-seat.ensures.view c.requires.numbers c.close_with-closed.ensures.values.2 in
+    let end = closes entries charter _ _ known_of c.args.passes.items _ _ closed.words.items closed.slots.items c.gather-seat.ensures.view c.requires.numbers
+    c.close_with-closed.ensures.values.2 in
     (taken_out entries charter _ _ known_of c.args.passes.items closed.slots.items c.take-home.result c.unwrap.result end c.take-home.ensures.value c.unwrap.ensures).makers

@@ -5,7 +5,8 @@ use Rattle.ras_turn.proofs.Ends.{deals_as, dealt_view}
 use Rattle.ras_turn.proofs.turn.Turn.deal.Goals as goal
 
 pub split_seat-dealt-requires : goal.split_seat-dealt-requires
-split_seat-dealt-requires g c = (search rules, search rules, deals_as g.S.Chronicle.entries g.S.Chronicle.charter _ _ _ c.loop-number.number c.loop-number.seat.me.0 c.loop-number.invariant.view (search rules))
+split_seat-dealt-requires g c =
+    (search rules, search rules, deals_as g.S.Chronicle.entries g.S.Chronicle.charter _ _ _ c.loop-number.number c.loop-number.seat.me.0 c.loop-number.invariant.view (search rules))
 
 pub loop-number-preserved : goal.loop-number-preserved
 loop-number-preserved g c =
