@@ -1,0 +1,8 @@
+pub mod Ascending
+pub mod Fixed
+pub mod Room
+pub mod Seen
+pub mod Sessions
+pub mod Standing
+pub mod Work
+pub mod Writings

@@ -1,0 +1,4 @@
+pub mod Holdings
+pub mod Sessions
+pub mod Work
+pub mod Writings
