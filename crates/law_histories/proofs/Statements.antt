@@ -1,13 +1,16 @@
 -- The laws of statements, over the words of the machine that stay shut in proofs on histories.
 use Rattle.std.proofs.Common.{◌≡◌, ℕ, ◌+◌, ◌<◌, ◌≤◌, ℤ, List, Contains, IsTrue, arith}
-use Rattle.std.proofs.lemmas.List.Elements.{All-weaker}
+use Rattle.std.proofs.lemmas.List.Elements.{All-weaker, recursion_from_All}
+use Rattle.std.specs.Ordering.{is_eq, nat_cmp}
+use Rattle.std.specs.Cmp.Lexicographic.{slice_cmp}
+use Rattle.law_effects.proofs.Written.{found_each}
 use Rattle.arrayvec.specs.ArrayVec.{ArrayVec}
 use Rattle.ras_domain.specs.declared.lock.LockName.{LockName}
 use Rattle.ras_domain.specs.declared.lock.LockName.TheVariants.{Collection, Domain, Tile}
 use Rattle.ras_domain.specs.declared.lock.Mode.TheVariants.{Exclusive}
 use Rattle.ras_syntax.specs.Literals.{statement_numbers_fit}
 use Rattle.ras_syntax.specs.declared.statement.Statement.{Statement}
-use Rattle.spec_expressions.specs.Database.{Database}
+use Rattle.spec_expressions.specs.Database.{Collection as Collection_of, Database}
 use Rattle.spec_expressions.specs.SetTypes.{AreTypes}
 use Rattle.spec_statements.specs.Agree.{Agrees}
 use Rattle.spec_statements.specs.Locks.{Lock}
@@ -51,7 +54,9 @@ setting_of programs bound statement database ready few fits = record {
   types_fit = ready.types_fit;
   numbers_fit = fits;
   valid = ready.valid;
-  small_identifiers = (ready-more programs bound MAX_IDENTIFIER database few ready).identifiers;
+  small_identifiers = λ name named. let P : Collection_of → Type 0 = λ collection. collection.next ≤ MAX_IDENTIFIER in
+      found_each P (λ other. is_eq (slice_cmp nat_cmp name other)) database
+      (recursion_from_All (λ entry. P entry.1) database (ready-more programs bound MAX_IDENTIFIER database few ready).identifiers);
 }
 
 -- the names of a list within another are names of the other

@@ -66,7 +66,7 @@ AgreeAfter types list a b = EndAlike types list a.0 a.1 b.0 b.1
 
 -- ---- an update rewrites what stood in the collection
 
-update-rewrites : (types : List SetType) (source : CheckedSource) (axes : Option Axes) (target : Span) (body : Tree) (condition : Condition) (size : ℕ)
+pub update-rewrites : (types : List SetType) (source : CheckedSource) (axes : Option Axes) (target : Span) (body : Tree) (condition : Condition) (size : ℕ)
     (database : Database) (plans : List Plan) (made : List (Plan × Stores)) (wanted : List Lock)
     → IsValidFor types database → IsCheckedOver types database wanted (update source axes target body condition)
     → (let tree : StatementTree = record { request = update source axes target body condition; length = size } in until_bodies tree database ≡ Ok plans)

@@ -1,8 +1,6 @@
 -- What is known of a request whose check is passed, over two databases that agree on its first list.
-use Rattle.std.proofs.Common.{◌≡◌, ◌≤◌, ℕ, List, [], ◌∷◌, Some, IfSome, Ok, Contains, sym, ◌∙◌, subst}
+use Rattle.std.proofs.Common.{◌≡◌, ◌≤◌, ℕ, List, [], ◌∷◌, Some, IfSome, Ok, false, Contains, sym, ◌∙◌, subst}
 use Rattle.std.specs.List.{AllByRecursion}
-use Rattle.std.specs.Ordering.{is_eq, nat_cmp}
-use Rattle.std.specs.Cmp.Lexicographic.{slice_cmp}
 use Rattle.std.proofs.lemmas.List.Elements.{recursion_from_All}
 use Rattle.ras_domain.specs.declared.lock.LockName.TheVariants.{Collection}
 use Rattle.ras_domain.specs.declared.lock.Mode.{Mode}
@@ -16,17 +14,18 @@ use Rattle.spec_expressions.specs.SetTypes.{AreTypes}
 use Rattle.spec_expressions.specs.WellTyped.{IsWellTypedCondition}
 use Rattle.spec_statements.specs.Agree.{Agrees}
 use Rattle.spec_statements.specs.Locks.{Lock}
-use Rattle.spec_statements.specs.Machine.{catalog_of, checked_over, first_list, wanted_at_first}
-use Rattle.spec_statements.specs.ReachLaw.{AreNamedIn, IsSetting}
+use Rattle.spec_statements.specs.Machine.{catalog_of, checked_over, first_list, is_too_long, wanted_at_first}
+use Rattle.spec_statements.specs.ReachLaw.{AreNamedIn, IsSetting, Names}
 use Rattle.spec_statements.specs.Rows.{sources_of, where_of}
 use Rattle.spec_statements.specs.Statement.{Request, statement_tree_of, select, insert, delete, update, create, drop}
-use Rattle.spec_statements.specs.Validity.{HasSmallIdentifiers, IsValidFor}
+use Rattle.spec_statements.specs.Validity.{HasSmallNext, IsValidFor}
 use Rattle.law_lists.proofs.Each.{each_weaker}
 use Rattle.law_checks.specs.Statements.{IsSourceIn, IsWellTypedRequest}
 use Rattle.law_checks.proofs.Statements.{statement-typed}
 use Rattle.law_effects.proofs.Checked.{IsCheckedOver, collection_type-catalog_of, statement_checked, type_in}
 use Rattle.law_effects.proofs.Validity.{collection_in, type_fits}
-use Rattle.law_effects.proofs.Written.{found_each}
+use Rattle.law_effects.proofs.LockNames.{asked_is_named}
+use Rattle.law_effects.proofs.Phases.{first_is}
 use Rattle.law_locks.proofs.Collections.{AreAlikeAt, AreAlikeCollections, alike_types, wanted_alike}
 use Rattle.law_locks.proofs.Pairs.{IsOver}
 use Rattle.law_locks.proofs.Planned.{IsTypedBody, body_in}
@@ -53,16 +52,15 @@ body_typed types database (drop name) typed = tt
 
 -- ---- the sources
 
--- the databases are valid and have small identifiers
+-- the databases are valid
 pub record AreValid (types : List SetType) (one other : Database) : Type 0 where
   pub types_fit : AreTypes types
   pub first : IsValidFor types one
   pub second : IsValidFor types other
-  pub small : HasSmallIdentifiers one
 
 module _ (types : List SetType) (one other : Database) (are : AreValid types one other) where
-  source_over : (source : CheckedSource) → AreAlikeAt one other source.collection → IsSourceIn (catalog_of types one) source → IsOver types one other source
-  source_over source same known =
+  source_over : (source : CheckedSource) → AreAlikeAt one other source.collection → HasSmallNext one source.collection → IsSourceIn (catalog_of types one) source → IsOver types one other source
+  source_over source same few known =
       let name : List ℕ = source.collection in
       let type : type_in types (collection_of one name) ≡ Some source.of = sym (collection_type-catalog_of types one name) ∙ known in
       let (first, first_in) = collection_in types one name source.of are.first type in
@@ -74,25 +72,25 @@ module _ (types : List SetType) (one other : Database) (are : AreValid types one
         first_in = first_in;
         second_in = second_in;
         alike = subst (λ o. AreAlikeCollections (Some first) o) second_in.found (subst (λ o. AreAlikeCollections o (collection_of other name)) first_in.found same);
-        small = subst (λ o. IfSome o P) first_in.found (found_each P (λ other. is_eq (slice_cmp nat_cmp name other)) one (recursion_from_All (λ entry. P entry.1) one are.small));
+        small = subst (λ o. IfSome o P) first_in.found (few);
         type = type_fits types first.set_type source.of are.types_fit first_in.type;
       }
 
-  sources_each : (wanted : List Lock) → ((name : List ℕ) (mode : Mode) → Contains wanted (Collection name, mode) → AreAlikeAt one other name)
+  sources_each : (wanted : List Lock) → ((name : List ℕ) (mode : Mode) → Contains wanted (Collection name, mode) → AreAlikeAt one other name × HasSmallNext one name)
       → (sources : List CheckedSource) → AllByRecursion (λ source. Contains wanted (Collection source.collection, Shared)) sources
       → AllByRecursion (IsSourceIn (catalog_of types one)) sources → AllByRecursion (IsOver types one other) sources
   sources_each wanted alike [] named known = tt
   sources_each wanted alike (source ∷ sources) named known =
-      (source_over source (alike source.collection Shared named.0) known.0, sources_each wanted alike sources named.1 known.1)
+      (let both = alike source.collection Shared named.0 in source_over source both.0 both.1 known.0, sources_each wanted alike sources named.1 known.1)
 
-  sources_over : (wanted : List Lock) (request : Request) → ((name : List ℕ) (mode : Mode) → Contains wanted (Collection name, mode) → AreAlikeAt one other name)
+  sources_over : (wanted : List Lock) (request : Request) → ((name : List ℕ) (mode : Mode) → Contains wanted (Collection name, mode) → AreAlikeAt one other name × HasSmallNext one name)
       → IsCheckedOver types one wanted request → IsWellTypedRequest (catalog_of types one) request → AllByRecursion (IsOver types one other) (sources_of request)
   sources_over wanted (select body sources condition) alike checked typed =
       sources_each wanted alike sources (each_weaker _ (λ source. Contains wanted (Collection source.collection, Shared)) (λ source h. h.0) sources checked)
       (recursion_from_All (IsSourceIn (catalog_of types one)) sources typed.known)
   sources_over wanted (insert into of body) alike checked typed = tt
-  sources_over wanted (delete source condition) alike checked typed = (source_over source (alike source.collection Exclusive checked.0) typed.known, tt)
-  sources_over wanted (update source axes target body condition) alike checked typed = (source_over source (alike source.collection Shared checked.0) typed.known, tt)
+  sources_over wanted (delete source condition) alike checked typed = (let both = alike source.collection Exclusive checked.0 in source_over source both.0 both.1 typed.known, tt)
+  sources_over wanted (update source axes target body condition) alike checked typed = (let both = alike source.collection Shared checked.0 in source_over source both.0 both.1 typed.known, tt)
   sources_over wanted (create name of) alike checked typed = tt
   sources_over wanted (drop name) alike checked typed = tt
 
@@ -106,15 +104,18 @@ pub record IsKnown (types : List SetType) (one other : Database) (statement : St
   pub alike : (name : List ℕ) (mode : Mode) → Contains (wanted_at_first statement.form) (Collection name, mode) → AreAlikeAt one other name
 
 pub known : (types : List SetType) (statement : Statement) (one other : Database) (list : List Lock) (checked : Checked) → IsSetting types statement one
-    → IsValidFor types other → Agrees types list one other → AreNamedIn (first_list statement) list → checked_over types statement one ≡ Ok checked
+    → IsValidFor types other → Agrees types list one other → is_too_long (first_list statement) ≡ false → AreNamedIn (first_list statement) list → checked_over types statement one ≡ Ok checked
     → IsKnown types one other statement (statement_tree_of checked).request
-known types statement one other list checked setting valid agrees covers is =
+known types statement one other list checked setting valid agrees short covers is =
     let typed = statement-typed (catalog_of types one) statement checked setting.numbers_fit is in
     let checked_one = statement_checked types one statement checked is in
     let alike = wanted_alike types list (wanted_at_first statement.form) one other agrees covers in
-    let are : AreValid types one other = record { types_fit = setting.types_fit; first = setting.valid; second = valid; small = setting.small_identifiers } in
+    let few : (name : List ℕ) (mode : Mode) → Contains (wanted_at_first statement.form) (Collection name, mode) → HasSmallNext one name = λ name mode has.
+    setting.small_identifiers name (subst (λ l. Names l (Collection name)) (sym (first_is types statement one short))
+    (asked_is_named (wanted_at_first statement.form) (Collection name) mode has)) in
+    let are : AreValid types one other = record { types_fit = setting.types_fit; first = setting.valid; second = valid } in
     record {
-      over = sources_over types one other are (wanted_at_first statement.form) (statement_tree_of checked).request alike checked_one typed;
+      over = sources_over types one other are (wanted_at_first statement.form) (statement_tree_of checked).request (λ name mode has. (alike name mode has, few name mode has)) checked_one typed;
       condition = condition_typed types one (statement_tree_of checked).request typed;
       body = body_typed types one (statement_tree_of checked).request typed;
       checked = checked_one;

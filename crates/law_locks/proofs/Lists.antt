@@ -44,7 +44,7 @@ module _ (types : List SetType) (statement : Statement) (one other : Database) (
   later_covered needs checked short is covers = subst (λ l. AreNamedIn l list) (later_is needs types statement one checked short is) covers
 
   pub known_here : (checked : Checked) → IsShort statement → checked_over types statement one ≡ Ok checked → IsKnown types one other statement (statement_tree_of checked).request
-  known_here checked short is = known types statement one other list checked setting valid agrees (first_covered short) is
+  known_here checked short is = known types statement one other list checked setting valid agrees short (first_covered short) is
 
   -- what depends on the outcome of the check alone, and then on the databases
   by_check : {X : Type 0} (long : X) (f g : Result Checked CheckMisfit → X) → ((fault : CheckMisfit) → f (Err fault) ≡ g (Err fault))

@@ -1,3 +1,4 @@
+pub mod Applied
 pub mod Ascending
 pub mod Fixed
 pub mod Room

@@ -21,7 +21,8 @@ ghost use Rattle.spec_histories.specs.Legal.{IsDueList, IsGoingOn, IsLegal, MayF
 ghost use Rattle.spec_histories.specs.Serializable.{ArePrograms, HasRoom, answer_count};
 ghost use Rattle.spec_views.specs.Holdings.{Holdings, IsSeenBy, StandsFor, holding_at, lists_before, passing_by};
 ghost use Rattle.spec_views.specs.Sessions.{AreShort, IsWorkOf};
-ghost use Rattle.spec_views.specs.Writings.{written_by};
+ghost use Rattle.spec_views.specs.Writings.{applied_in, written_by};
+ghost use Rattle.spec_statements.specs.Effects.{effect_of_checked};
 ghost use Rattle.spec_views.specs.Work.{IsWork, Rewrites, RewritesTo, TakenPiece, Work, taken_locks};
 
 /// Two databases for which the same holdings stand show the same under each lock of the list, where
@@ -197,4 +198,12 @@ pub fn views_fix_what_is_written()
         → is_too_long (first_list statement) ≡ false → checked_over types statement one ≡ Ok checked
         → IsSeenBy types view statement 5 one → IsSeenBy types view statement 5 other
         → written_by (statement_tree_of checked) one ≡ written_by (statement_tree_of checked) other }
+{}
+
+/// A checked statement's effect on a valid database is what it writes, written to that database.
+pub fn effects_are_what_is_written()
+    ensures { (types : List SetType) (statement : Statement) (database : Database) (checked : Checked)
+        → IsValidFor types database → checked_over types statement database ≡ Ok checked
+        → effect_of_checked (statement_tree_of checked) database
+        ≡ applied_in (statement_tree_of checked).request (written_by (statement_tree_of checked) database) database }
 {}

@@ -14,7 +14,7 @@ use Rattle.spec_expressions.specs.Database.{Database}
 use Rattle.spec_expressions.specs.SetTypes.{AreTypes}
 use Rattle.spec_statements.specs.Locks.{Lock}
 use Rattle.spec_statements.specs.Machine.{effect_of, needs_of, reply_of}
-use Rattle.spec_statements.specs.Validity.{IsValidFor, HasSmallIdentifiers}
+use Rattle.spec_statements.specs.Validity.{IsValidFor, HasSmallNext}
 
 -- the list has this name, in whatever mode
 abbrev pub Names : List Lock → LockName → Type 0
@@ -25,12 +25,12 @@ abbrev pub AreNamedIn : List Lock → List Lock → Type 0
 AreNamedIn small large = (name : LockName) → Names small name → Names large name
 
 -- what the laws speak of: types that may be declared, a statement whose numbers are of their atoms, as those of a text
--- are, and a valid database whose identifiers are numbers of 64 bits
+-- are, and a valid database; the identifiers of the collections in the statement's first list are numbers of 64 bits
 pub record IsSetting (types : List SetType) (statement : Statement) (database : Database) : Type 0 where
   pub types_fit : AreTypes types
   pub numbers_fit : IsTrue (statement_numbers_fit statement.form)
   pub valid : IsValidFor types database
-  pub small_identifiers : HasSmallIdentifiers database
+  pub small_identifiers : (name : List ℕ) → Names (needs_of types statement 1 database) (Collection name) → HasSmallNext database name
 
 -- where two databases agree on the lists of a statement's earlier phases, they have the same list of the next phase
 abbrev pub LawOfNeeds : Type 0

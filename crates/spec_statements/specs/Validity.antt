@@ -1,5 +1,5 @@
 -- Databases that are valid for a list of types.
-use Rattle.std.specs.Prelude.{◌≡◌, ℕ, ◌*◌, ◌<◌, ◌≤◌, List, map, length, slice_get, Some, All, IsTrue}
+use Rattle.std.specs.Prelude.{◌≡◌, ℕ, ◌*◌, ◌<◌, ◌≤◌, List, map, length, slice_get, Some, IfSome, All, IsTrue}
 use Rattle.std.specs.List.Sorted.{IsStrictlySortedBy}
 use Rattle.std.specs.Map.{keys_of}
 use Rattle.std.specs.Ordering.{nat_cmp}
@@ -9,7 +9,7 @@ use Rattle.ras_cells.specs.Stored.{atoms_of}
 use Rattle.ras_domain.specs.Region.{IsRegion, points_of, volume_of}
 use Rattle.ras_syntax.specs.declared.types.SetType.{SetType}
 use Rattle.spec_statements.specs.Plans.{tile_count}
-use Rattle.spec_expressions.specs.Database.{Array, Collection, Database}
+use Rattle.spec_expressions.specs.Database.{Array, Collection, Database, collection_of}
 use Rattle.ras_domain.specs.Boxes.{lies_in}
 use Rattle.ras_syntax.specs.declared.limits.TheConstants.{MAX_TILES, MAX_STORED_NUMBERS, MAX_IDENTIFIER}
 
@@ -40,6 +40,6 @@ pub record IsValidFor (types : List SetType) (database : Database) : Type 0 wher
 abbrev pub HasIdentifiersUpTo : ℕ → Database → Type 0
 HasIdentifiersUpTo bound database = All (λ entry. entry.1.next ≤ bound) database
 
--- identifiers are numbers of 64 bits
-abbrev pub HasSmallIdentifiers : Database → Type 0
-HasSmallIdentifiers = HasIdentifiersUpTo MAX_IDENTIFIER
+-- the collection of a name, if there is one, gives out numbers of 64 bits
+abbrev pub HasSmallNext : Database → List ℕ → Type 0
+HasSmallNext database name = IfSome (collection_of database name) (λ collection. collection.next ≤ MAX_IDENTIFIER)
