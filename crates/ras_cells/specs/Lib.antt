@@ -3,4 +3,5 @@ pub mod Cells
 pub mod Laws
 pub mod Numbers
 pub mod Outcomes
+pub mod Runs
 pub mod Stored

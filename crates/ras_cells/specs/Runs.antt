@@ -1,0 +1,15 @@
+-- Runs: the numbers of one component of some cells, in the width that they are kept in.
+use Rattle.std.specs.Prelude.{◌≡◌, ℤ, pos, List, map, All}
+use Rattle.ras_cells.specs.declared.run.Run.{Run}
+use Rattle.ras_cells.specs.declared.run.Run.TheVariants.{Uniform, U8, I8, U16, I16, U32, I32, Plain}
+
+-- these are the numbers of the run; one that is kept as one number may have any length
+abbrev pub IsRunOf : List ℤ → Run → Type 0
+IsRunOf numbers (Uniform number) = All (λ n. n ≡ number) numbers
+IsRunOf numbers (U8 bytes) = numbers ≡ map pos bytes.now
+IsRunOf numbers (I8 bytes) = numbers ≡ bytes.now
+IsRunOf numbers (U16 shorts) = numbers ≡ map pos shorts.now
+IsRunOf numbers (I16 shorts) = numbers ≡ shorts.now
+IsRunOf numbers (U32 longs) = numbers ≡ map pos longs.now
+IsRunOf numbers (I32 longs) = numbers ≡ longs.now
+IsRunOf numbers (Plain plain) = numbers ≡ plain.now
