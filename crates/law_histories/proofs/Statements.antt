@@ -48,7 +48,7 @@ ready-more programs bound more database few ready = record {
 }
 
 -- what the laws of agreement speak of
-setting_of : (programs : Programs) (bound : ℕ) (statement : Statement) (database : Database) → IsReady programs bound database → bound ≤ MAX_IDENTIFIER
+pub setting_of : (programs : Programs) (bound : ℕ) (statement : Statement) (database : Database) → IsReady programs bound database → bound ≤ MAX_IDENTIFIER
     → IsTrue (statement_numbers_fit statement.form) → IsSetting programs.types statement database
 setting_of programs bound statement database ready few fits = record {
   types_fit = ready.types_fit;

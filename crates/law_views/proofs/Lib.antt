@@ -1,6 +1,8 @@
 pub mod Applied
 pub mod Ascending
+pub mod Events
 pub mod Fixed
+pub mod Quiet
 pub mod Room
 pub mod Seen
 pub mod Sessions

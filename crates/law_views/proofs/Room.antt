@@ -1,5 +1,5 @@
 -- There are no more answers than begun transactions times the statements of a session.
-use Rattle.std.proofs.Common.{◌≡◌, ◌≢◌, ℕ, zero, suc, ◌+◌, ◌*◌, ◌-◌, ◌≤◌, inl, inr, Bool, true, false, cond, ◌||◌, nat_le, if◌then◌else◌, List, [], ◌∷◌, length, Option, Some, None, refl, sym, ap, ◌∙◌, subst, arith}
+use Rattle.std.proofs.Common.{◌≡◌, ◌≢◌, ℕ, zero, suc, ◌+◌, ◌*◌, ◌-◌, ◌<◌, ◌≤◌, inl, inr, Bool, true, false, cond, ◌||◌, nat_le, if◌then◌else◌, List, [], ◌∷◌, length, Option, Some, None, refl, sym, ap, ◌∙◌, subst, arith}
 use Rattle.std.specs.Prelude.{IsTrue, count_by, slice_get}
 use Rattle.std.proofs.lemmas.Bool.{cases_eq, eq-eqb}
 use Rattle.std.proofs.Math.Nat.{mul-le-mul_right}
@@ -18,17 +18,17 @@ use Rattle.spec_views.specs.Sessions.{AreShort}
 
 -- ---- sums over numbers from 1 on
 
-sum_to : (ℕ → ℕ) → ℕ → ℕ
+unfoldable pub sum_to : (ℕ → ℕ) → ℕ → ℕ
 sum_to f zero = 0
 sum_to f (suc n) = sum_to f n + f (suc n)
 
-sum_to-more : (f g : ℕ → ℕ) (n : ℕ) → ((k : ℕ) → f k ≤ g k) → sum_to f n ≤ sum_to g n
+pub sum_to-more : (f g : ℕ → ℕ) (n : ℕ) → ((k : ℕ) → f k ≤ g k) → sum_to f n ≤ sum_to g n
 unfolding sum_to
 sum_to-more f g zero more = omega arith
 sum_to-more f g (suc n) more = omega (arith, sum_to-more f g n more, more (suc n))
 
 -- one of the terms is greater
-sum_to-grows : (f g : ℕ → ℕ) (n at : ℕ) → ((k : ℕ) → f k ≤ g k) → 1 ≤ at → at ≤ n → f at + 1 ≤ g at → sum_to f n + 1 ≤ sum_to g n
+pub sum_to-grows : (f g : ℕ → ℕ) (n at : ℕ) → ((k : ℕ) → f k ≤ g k) → 1 ≤ at → at ≤ n → f at + 1 ≤ g at → sum_to f n + 1 ≤ sum_to g n
 unfolding sum_to
 sum_to-grows f g zero at more some few grows = absurd (omega arith)
 sum_to-grows f g (suc n) at more some few grows = elim (cases_eq at (suc n)) [
@@ -109,7 +109,7 @@ total-few longest n past =
 
 -- ---- owners have begun, and statements have places
 
-begun-more : (event : Event) (past : History) → count_by is_begun (event ∷ past) ≡ cond (is_begun event) 1 0 + count_by is_begun past
+pub begun-more : (event : Event) (past : History) → count_by is_begun (event ∷ past) ≡ cond (is_begun event) 1 0 + count_by is_begun past
 begun-more event past = sum_by-cons (λ e. cond (is_begun e) 1 0) event past
 
 abbrev HaveBegun : History → Type 0
@@ -143,7 +143,18 @@ have_begun programs (Committed t n ∷ past) (may, legal) =
 have_begun programs (Aborted t ∷ past) (may, legal) =
     let all = have_begun programs past legal in begun-later (Aborted t) past all (begun-live (Aborted t) past all may)
 
-nth-within : {X : Type 0} (k : ℕ) (xs : List X) (x : X) → nth k xs ≡ Some x → (1 ≤ k) × (k ≤ length xs)
+-- a number beyond those that have begun has no events
+pub fresh : (programs : Programs) (past : History) (t : ℕ) → IsLegal programs past → count_by is_begun past < t → events_of t past ≡ []
+fresh programs past t legal later = at (events_of t past) refl
+  where
+    at : (own_events : History) → events_of t past ≡ own_events → events_of t past ≡ []
+    at [] is = is
+    at (event ∷ own_events) is = absurd (omega (arith, (have_begun programs past legal t (λ none. some (sym is ∙ none))).1))
+      where
+        some : event ∷ own_events ≢ []
+        some none = absurd cc
+
+pub nth-within : {X : Type 0} (k : ℕ) (xs : List X) (x : X) → nth k xs ≡ Some x → (1 ≤ k) × (k ≤ length xs)
 nth-within zero xs x is = absurd cc
 nth-within {X = X} (suc k) xs x is = at (nat_le 1 (suc k)) is
   where

@@ -1,17 +1,23 @@
 -- What a view shows of a statement over one database that it stands for, it shows of it over each.
-use Rattle.std.proofs.Common.{◌≡◌, ℕ, zero, suc, ◌<◌, ◌≤◌, ℤ, inl, inr, List, [], ◌∷◌, ◌++◌, map, Contains, Result, Ok, false, refl, sym, subst, arith}
+use Rattle.std.proofs.Common.{◌≡◌, ℕ, zero, suc, ◌<◌, ◌≤◌, ℤ, inl, inr, List, [], ◌∷◌, ◌++◌, map, Contains, Option, Some, None, Result, Ok, false, refl, sym, subst, arith}
 use Rattle.std.specs.List.{AllZip}
+use Rattle.std.specs.Map.{keys_of}
+use Rattle.std.specs.Option.{option_map}
+use Rattle.std.specs.Prelude.{IfSome, IsTrue}
 use Rattle.std.proofs.lemmas.Bool.{cases_eq, cases_lt}
 use Rattle.std.proofs.lemmas.List.Elements.{Contains-append_cases, Contains-append_left, Contains-append_right}
 use Rattle.arrayvec.specs.ArrayVec.{ArrayVec}
 use Rattle.ras_domain.specs.declared.lock.LockName.{LockName}
 use Rattle.ras_domain.specs.declared.lock.LockName.TheVariants.{Collection, Domain, Tile}
+use Rattle.ras_syntax.specs.declared.limits.TheConstants.{MAX_IDENTIFIER}
 use Rattle.ras_syntax.specs.declared.statement.Statement.{Statement}
 use Rattle.ras_syntax.specs.declared.types.SetType.{SetType}
 use Rattle.ras_syntax.specs.declared.typed.Checked.{Checked}
 use Rattle.ras_syntax.specs.declared.typed.CheckedSource.{CheckedSource}
-use Rattle.spec_expressions.specs.Database.{Database}
-use Rattle.spec_statements.specs.Agree.{Agrees}
+use Rattle.spec_expressions.specs.Database.{Collection as CollectionOf, Database, collection_of}
+use Rattle.ras_syntax.specs.Literals.{statement_numbers_fit}
+use Rattle.spec_expressions.specs.SetTypes.{AreTypes}
+use Rattle.spec_statements.specs.Agree.{Agrees, collection_seen}
 use Rattle.spec_statements.specs.Effects.{row_identifiers}
 use Rattle.spec_statements.specs.Locks.{Lock}
 use Rattle.spec_statements.specs.Machine.{checked_over, effect_of, first_list, is_too_long, needs_of, reply_of}
@@ -29,7 +35,7 @@ use Rattle.law_locks.proofs.Collections.{checked_same}
 use Rattle.law_locks.proofs.Lists.{known_here, later_covered, needs_agree}
 use Rattle.law_locks.proofs.Sides.{Alike-bind, same-Alike, zip-same_map}
 use Rattle.law_locks.proofs.Steps.{IsRowAlike, passing_same}
-use Rattle.spec_views.specs.Holdings.{Holdings, IsSeenBy, StandsFor, lists_before, passing_by}
+use Rattle.spec_views.specs.Holdings.{HasSmallNexts, Holdings, IsSeenBy, StandsFor, holding_in, lists_before, passing_by}
 use Rattle.law_views.proofs.Standing.{stands-fewer, stands_agree}
 
 -- ---- the lists before a phase
@@ -197,3 +203,23 @@ seen_check types statement view one other short seen also =
     checked_same types statement (lists_before types statement 2 one) one other
     (stands_agree types view (lists_before types statement 2 one) one other (before_parents types statement one 2) seen.stands also.stands)
     (subst (λ l. AreNamedIn l (lists_before types statement 2 one)) (first_is types statement one short) (earlier_listed types statement one 1 2 (omega arith)))
+
+-- ---- identifiers
+
+-- where a view has the first phase's collections, what it holds of them tells that their next identifiers are small
+pub setting_of_view : (types : List SetType) (statement : Statement) (view : Holdings) (database : Database) (phase : ℕ) → AreTypes types
+    → IsTrue (statement_numbers_fit statement.form) → HasSmallNexts view → 2 ≤ phase → IsSeenBy types view statement phase database
+    → IsSetting types statement database
+setting_of_view types statement view database phase types_fit fits small later seen = record {
+  types_fit = types_fit;
+  numbers_fit = fits;
+  valid = seen.valid;
+  small_identifiers = λ name named. shown name (collection_of database name)
+      (seen.stands (Collection name) (earlier_listed types statement database 1 phase (omega (arith, later)) (Collection name) named));
+}
+  where
+    shown : (name : List ℕ) (found : Option CollectionOf)
+        → view (Collection name) ≡ holding_in (option_map (λ collection. collection_seen collection.set_type collection.next (keys_of collection.arrays)) found)
+        → IfSome found (λ collection. collection.next ≤ MAX_IDENTIFIER)
+    shown name None held = tt
+    shown name (Some collection) held = small name collection.set_type collection.next (keys_of collection.arrays) held

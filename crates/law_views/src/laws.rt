@@ -8,19 +8,21 @@ ghost use Rattle.spec_expressions.specs.Database.{Database};
 ghost use Rattle.spec_expressions.specs.SetTypes.{AreTypes};
 ghost use Rattle.spec_statements.specs.Agree.{Agrees};
 ghost use Rattle.spec_statements.specs.Locks.{Lock};
+ghost use Rattle.ras_syntax.specs.Literals.{statement_numbers_fit};
+ghost use Rattle.ras_domain.specs.declared.lock.Mode.{Mode};
 ghost use Rattle.spec_statements.specs.Machine.{checked_over, effect_of, first_list, is_too_long, needs_of, reply_of};
 ghost use Rattle.spec_statements.specs.ReachLaw.{AreNamedIn, HasParents, IsSetting, Names};
 ghost use Rattle.spec_statements.specs.Reply.{reply_of_answer};
 ghost use Rattle.ras_syntax.specs.declared.answer.Answer.{Answer};
-ghost use Rattle.ras_syntax.specs.declared.event.Event.TheVariants.{Answered};
+ghost use Rattle.ras_syntax.specs.declared.event.Event.TheVariants.{Answered, Begun, GaveUp, Granted, Refused};
 ghost use Rattle.spec_statements.specs.Statement.{statement_tree_of};
 ghost use Rattle.spec_statements.specs.Validity.{IsValidFor};
 ghost use Rattle.ras_syntax.specs.declared.limits.TheConstants.{MAX_IDENTIFIER};
-ghost use Rattle.spec_histories.specs.History.{History, Programs, committed_database, events_of, has_phase, is_closed, own_database, program_needs, statement_numbered};
+ghost use Rattle.spec_histories.specs.History.{History, Programs, begun_at, committed_database, events_of, has_phase, is_closed, own_database, program_needs, statement_numbered};
 ghost use Rattle.spec_histories.specs.Legal.{IsDueList, IsGoingOn, IsLegal, MayFollow, is_begun};
 ghost use Rattle.spec_histories.specs.Serializable.{ArePrograms, HasRoom, answer_count};
-ghost use Rattle.spec_views.specs.Holdings.{Holdings, IsSeenBy, StandsFor, holding_at, lists_before, passing_by};
-ghost use Rattle.spec_views.specs.Sessions.{AreShort, IsWorkOf};
+ghost use Rattle.spec_views.specs.Holdings.{HasSmallNexts, Holdings, IsSeenBy, StandsFor, holding_at, lists_before, passing_by};
+ghost use Rattle.spec_views.specs.Sessions.{AreShort, IsIdle, IsQuiet, IsWorkOf};
 ghost use Rattle.spec_views.specs.Writings.{applied_in, written_by};
 ghost use Rattle.spec_statements.specs.Effects.{effect_of_checked};
 ghost use Rattle.spec_views.specs.Work.{IsWork, Rewrites, RewritesTo, TakenPiece, Work, taken_locks};
@@ -206,4 +208,77 @@ pub fn effects_are_what_is_written()
         → IsValidFor types database → checked_over types statement database ≡ Ok checked
         → effect_of_checked (statement_tree_of checked) database
         ≡ applied_in (statement_tree_of checked).request (written_by (statement_tree_of checked) database) database }
+{}
+
+/// A view that has the first phase's collections tells by what it holds of them whether they give out
+/// numbers of 64 bits.
+pub fn views_tell_of_identifiers()
+    ensures { (types : List SetType) (statement : Statement) (view : Holdings) (database : Database) (phase : ℕ)
+        → AreTypes types → IsTrue (statement_numbers_fit statement.form) → HasSmallNexts view → 2 ≤ phase
+        → IsSeenBy types view statement phase database → IsSetting types statement database }
+{}
+
+/// In a legal history a live transaction's own database is one that the laws speak of, for each of its
+/// statements.
+pub fn own_databases_have_room()
+    ensures { (programs : Programs) (bound : ℕ) (past : History) (t : ℕ) (work : Work)
+        → ArePrograms programs bound → HasRoom bound past → IsLegal programs past → IsWorkOf programs past t work
+        → (k : ℕ) (statement : Statement) → statement_numbered programs (events_of t past) k ≡ Some statement
+        → IsSetting programs.types statement (own_database programs past t) }
+{}
+
+/// A transaction's work begins with nothing.
+pub fn work_begins_with_a_transaction()
+    ensures { (programs : Programs) (past : History) (t session k : ℕ) (view : Holdings) → IsLegal programs (Begun t session k ∷ past)
+        → IsWorkOf programs (Begun t session k ∷ past) t (record { pieces = []; rewrites = λ name held. held; view = view }) }
+{}
+
+/// It takes the piece of the committed database on the list that it is granted, which is seen as the work
+/// has rewritten it.
+pub fn work_takes_what_is_granted()
+    ensures { (programs : Programs) (past : History) (t k p : ℕ) (work : Work) (piece : TakenPiece) (view : Holdings)
+        → IsWorkOf programs past t work → StandsFor programs.types piece.holdings piece.list (committed_database programs past)
+        → ((name : LockName) → Names (taken_locks work.pieces) name → view name ≡ work.view name)
+        → ((name : LockName) → Names piece.list name → view name ≡ work.rewrites name (piece.holdings name))
+        → IsWorkOf programs (Granted t k p piece.list ∷ past) t
+        (record { pieces = piece ∷ work.pieces; rewrites = work.rewrites; view = view }) }
+{}
+
+/// It goes on by what an answered statement rewrites, or stays where that has no effect.
+pub fn work_goes_on_by_answers()
+    ensures rewritten { (programs : Programs) (bound : ℕ) (past : History) (t : ℕ) (work : Work)
+        → ArePrograms programs bound → HasRoom bound past → IsLegal programs past → IsWorkOf programs past t work
+        → (k : ℕ) (answer : Answer) (statement : Statement) → IsGoingOn programs past t k statement
+        → ((q : ℕ) → program_needs programs statement q (own_database programs past t) ≢ []
+        → IsTrue (has_phase k q (events_of t past)))
+        → (more : Rewrites)
+        → ((database : Database) → IsSeenBy programs.types work.view statement 5 database
+        → RewritesTo programs.types more database (effect_of programs.types statement database))
+        → IsWorkOf programs (Answered t k answer ∷ past) t
+        (record { pieces = work.pieces; rewrites = λ name held. more name (work.rewrites name held); view = λ name. more name (work.view name) }) }
+    ensures unchanged { (programs : Programs) (bound : ℕ) (past : History) (t : ℕ) (work : Work)
+        → ArePrograms programs bound → HasRoom bound past → IsLegal programs past → IsWorkOf programs past t work
+        → (k : ℕ) (answer : Answer) (statement : Statement) → IsGoingOn programs past t k statement
+        → ((q : ℕ) → program_needs programs statement q (own_database programs past t) ≢ []
+        → IsTrue (has_phase k q (events_of t past)))
+        → ((database : Database) → IsSeenBy programs.types work.view statement 5 database
+        → effect_of programs.types statement database ≡ database)
+        → IsWorkOf programs (Answered t k answer ∷ past) t work }
+{}
+
+/// A refusal and a giving up leave it as it is.
+pub fn work_stays_without_an_answer()
+    ensures refused { (programs : Programs) (past : History) (t k p holder : ℕ) (lock : LockName) (mode : Mode) (work : Work)
+        → IsWorkOf programs past t work → IsWorkOf programs (Refused t k p lock mode holder ∷ past) t work }
+    ensures gave_up { (programs : Programs) (past : History) (t k : ℕ) (work : Work)
+        → IsWorkOf programs past t work → IsWorkOf programs (GaveUp t k ∷ past) t work }
+{}
+
+/// What transactions of other sessions do is no event of a session's own transactions, and none begins
+/// there.
+pub fn other_sessions_leave_a_session_alone()
+    ensures events { (programs : Programs) (session : ℕ) (more past : History) (t at : ℕ) → IsLegal programs (more ++ past)
+        → IsQuiet session more past → begun_at (events_of t past) ≡ Some (session, at) → events_of t more ≡ [] }
+    ensures idle { (session : ℕ) (more past : History) → IsQuiet session more past → IsIdle session past
+        → IsIdle session (more ++ past) }
 {}

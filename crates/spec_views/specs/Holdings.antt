@@ -1,6 +1,8 @@
 -- What is held of a database under the names of locks, and for which databases it stands.
-use Rattle.std.specs.Prelude.{◌≡◌, ℕ, zero, suc, ℤ, List, [], ◌∷◌, ◌++◌, map, Option, Some, None, Result, Ok}
+use Rattle.std.specs.Prelude.{◌≡◌, ℕ, zero, suc, ◌≤◌, ℤ, List, [], ◌∷◌, ◌++◌, map, Option, Some, None, Result, Ok}
 use Rattle.ras_domain.specs.declared.lock.LockName.{LockName}
+use Rattle.ras_domain.specs.declared.lock.LockName.TheVariants.{Collection}
+use Rattle.ras_syntax.specs.declared.limits.TheConstants.{MAX_IDENTIFIER}
 use Rattle.ras_syntax.specs.declared.statement.Statement.{Statement}
 use Rattle.ras_syntax.specs.declared.types.SetType.{SetType}
 use Rattle.spec_expressions.specs.Database.{Database}
@@ -45,6 +47,12 @@ Holdings = LockName → Option Holding
 -- under each name of the list the database has what is held
 abbrev pub StandsFor : List SetType → Holdings → List Lock → Database → Type 0
 StandsFor types holdings list database = (name : LockName) → Names list name → holdings name ≡ holding_at types name database
+
+-- no collection that is held gives out an identifier beyond the greatest one next
+abbrev pub HasSmallNexts : Holdings → Type 0
+HasSmallNexts holdings =
+    (name : List ℕ) (set_type next : ℕ) (identifiers : List ℕ) → holdings (Collection name) ≡ Some (collection_held set_type next identifiers)
+    → next ≤ MAX_IDENTIFIER
 
 -- ---- what a statement has seen before a phase
 

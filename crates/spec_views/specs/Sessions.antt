@@ -20,6 +20,10 @@ IsQuiet session [] past = Unit {0}
 IsQuiet session (event ∷ more) past =
     ((at : ℕ) → begun_at (events_of (owner_of event) (event ∷ more ++ past)) ≡ Some (session, at) → ⊥) × IsQuiet session more past
 
+-- no live transaction began in the session
+abbrev pub IsIdle : ℕ → History → Type 0
+IsIdle session past = (t at : ℕ) → IsTrue (is_live t past) → begun_at (events_of t past) ≡ Some (session, at) → ⊥
+
 -- no session has more statements
 abbrev pub AreShort : Programs → ℕ → Type 0
 AreShort programs longest =
