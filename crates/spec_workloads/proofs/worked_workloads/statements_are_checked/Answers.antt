@@ -1,0 +1,19 @@
+use Rattle.std.proofs.Common.{refl}
+use Rattle.std.specs.Fmt.{digits}
+use Rattle.law_grammar.specs.Readers.{accept_or, bind, give, loop_after, mapped, refuse, turns, with_tokens}
+use Rattle.law_grammar.specs.Reading.{read_statement}
+use Rattle.spec_workloads.specs.Outline.{outline_of}
+use Rattle.spec_workloads.specs.TypeLines.{type_of_line}
+use Rattle.spec_workloads.proofs.worked_workloads.statements_are_checked.Goals as goal
+
+pub returns-clause-none : goal.returns-clause-none
+unfolding accept_or bind digits give loop_after mapped outline_of read_statement refuse turns type_of_line with_tokens
+returns-clause-none c = refl
+
+pub returns-clause-words : goal.returns-clause-words
+unfolding accept_or bind digits give loop_after mapped outline_of read_statement refuse turns type_of_line with_tokens
+returns-clause-words c = refl
+
+pub returns-clause-checks : goal.returns-clause-checks
+unfolding accept_or bind digits give loop_after mapped outline_of read_statement refuse turns type_of_line with_tokens
+returns-clause-checks c = refl
