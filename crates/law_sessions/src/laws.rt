@@ -1,0 +1,42 @@
+//! The laws. `specs/` of `spec_sessions` has the words that they use.
+ghost use Rattle.std.specs.Prelude.{◌≡◌, ℕ, suc, ◌+◌, ◌*◌, ◌≤◌, List, [], ◌∷◌, ◌++◌, All, length, Ok, Some, count_by};
+ghost use Rattle.ras_syntax.specs.declared.limits.TheConstants.{MAX_RETRIES};
+ghost use Rattle.spec_grammar.specs.Tokens.{Text};
+ghost use Rattle.spec_histories.specs.History.{History};
+ghost use Rattle.spec_histories.specs.Legal.{IsLegal, is_begun};
+ghost use Rattle.spec_histories.specs.Serializable.{HasRoom};
+ghost use Rattle.spec_sessions.specs.Begins.{HasFewTries, begins_in, read_scripts};
+ghost use Rattle.spec_sessions.specs.Outcomes.{AreMadeSoFarFrom, session_events};
+ghost use Rattle.spec_sessions.specs.Walk.{ReadScript, Step, Walked, walk};
+ghost use Rattle.spec_views.specs.Sessions.{IsQuiet};
+ghost use Rattle.spec_workloads.specs.declared.TheConstants.{MAX_SESSIONS, MAX_STATEMENTS};
+ghost use Rattle.spec_workloads.specs.Programs.{programs_of};
+ghost use Rattle.spec_workloads.specs.Setup.{WorkloadValue, workload_of};
+
+/// A walk begins no more transactions than the script has statements, times the tries that a begin may
+/// have.
+pub fn sessions_begin_few_transactions()
+    ensures { (session : ℕ) (script : ReadScript) (steps : List Step) (walked : Walked) → All HasFewTries script
+        → walk session script steps ≡ Some walked → begins_in steps ≤ length script * suc MAX_RETRIES }
+{}
+
+/// What came before a step of a walk is a walk.
+pub fn walks_begin_as_walks()
+    ensures { (session : ℕ) (script : ReadScript) (step : Step) (before : List Step) (walked : Walked)
+        → walk session script (step ∷ before) ≡ Some walked → (was : Walked) × (walk session script before ≡ Some was) }
+{}
+
+/// What transactions of other sessions do leaves a session's events.
+pub fn other_sessions_leave_the_events()
+    ensures { (session : ℕ) (more past : History) → IsQuiet session more past → session_events session (more ++ past) ≡ session_events session past }
+{}
+
+/// In a legal history of a text's workload whose sessions walk through their scripts, few transactions
+/// begin. So identifiers have room, whatever the sessions do.
+pub fn runs_begin_few_transactions()
+    ensures begins { (text : Text) (found : WorkloadValue × ℕ) (past : History) → workload_of text ≡ Ok found
+        → IsLegal (programs_of found.0) past → AreMadeSoFarFrom 1 (read_scripts found.0) past
+        → count_by is_begun past ≤ MAX_SESSIONS * (MAX_STATEMENTS * suc MAX_RETRIES) }
+    ensures room { (text : Text) (found : WorkloadValue × ℕ) (past : History) → workload_of text ≡ Ok found
+        → IsLegal (programs_of found.0) past → AreMadeSoFarFrom 1 (read_scripts found.0) past → HasRoom (1 + MAX_STATEMENTS) past }
+{}
