@@ -1,246 +1,309 @@
--- Cells that stand side by side in one list of numbers.
-use Rattle.std.proofs.Common.{◌≡◌, ℕ, zero, suc, ◌+◌, ◌-◌, ◌*◌, ◌≤◌, ◌<◌, ℤ, Bool, List, [], ◌∷◌, ◌++◌, ◌⊎◌, inl, inr, length, get_or, set, take, drop, replicate, Some, All, refl, sym, ap, ◌∙◌, arith}
-use Rattle.std.specs.List.{slice_get, flat_map}
-use Rattle.std.proofs.lemmas.List.{take-append-le, drop-append-le, take_at, drop_at, take-take, drop-take, drop-drop, length-drop, length-take-le, ext_get_or, length-set, get_or-set_same, get_or-set_other, length-append, take_all, get_or_default}
+-- The cells of planes.
+use Rattle.std.proofs.Common.{◌≡◌, ◌≢◌, ◌↔◌, Bool, IsTrue, ℕ, zero, suc, ◌+◌, ◌≤◌, ◌<◌, ℤ, pos, List, [], ◌∷◌, ◌++◌}
+use Rattle.std.proofs.Common.{inl, inr, length, get_or, set, take, map, replicate, Some, All, refl, sym, ap, ◌∙◌, subst, below_more, arith}
+use Rattle.std.specs.List.{slice_get}
+use Rattle.std.proofs.lemmas.List.{ext_get_or, length-set, get_or-set_same, get_or-set_other, length-map, length-replicate, get_or-replicate, get_or-map, map_push}
+use Rattle.std.proofs.lemmas.List.{take_more, take_all, get_or_append_left, get_or_push, length_push, map-set, map-id, take_more_set, set-get_or}
+use Rattle.std.proofs.lemmas.List.Elements.{All-push, All-from_get_or, All-head, All-tail}
+use Rattle.std.proofs.lemmas.List.FromFn.{length-map-range_with_len, get_or-map-range_with_len}
 use Rattle.std.proofs.lemmas.Bool.{cases_eq, cases_lt}
-use Rattle.std.proofs.lemmas.Option.{get_or_from_slice_get, slice_get-get_or, same_Some}
-use Rattle.std.proofs.lemmas.Slice.{take-put_mid_below, drop-put_mid}
-use Rattle.std.proofs.Math.Seq.{drop-append-add}
-use Rattle.std.proofs.Math.Nat.{mul-le-mul_right}
-use borrow.Rule.Slice.PartMut.{put_mid, post_of}
-use Rattle.ras_domain.specs.declared.region.Interval.{Interval}
-use Rattle.ras_domain.specs.Region.{points_of, IsIn, IsRegion, place_in_rows}
-use Rattle.ras_domain.proofs.Points.{Contains-IsIn}
-use Rattle.ras_domain.proofs.RowOrder.{place_in_rows-at}
-use Rattle.ras_tile.proofs.RowPlaces.{place-within, place-one}
-use Rattle.ras_tile.specs.Stored.{IsStored, nth_cell, cells_stored_in}
-use Rattle.ras_tile.specs.Tile.{TileValue, IsTile, tile_cell_at}
-use Rattle.ras_domain.specs.declared.TheConstants.{MAX_TILE_CELLS}
-use Rattle.ras_cells.specs.declared.TheConstants.{MAX_COMPONENTS}
+use Rattle.std.proofs.lemmas.Option.{get_or_from_slice_get, slice_get-get_or, slice_get_within}
+use Rattle.ras_cells.specs.Atoms.{IsInRange, AreInRange}
+use Rattle.ras_cells.specs.declared.atom.Atom.{Atom}
+use Rattle.ras_tile.specs.declared.plane.Plane.{Plane}
+use Rattle.ras_tile.specs.declared.plane.Plane.TheVariants.{Uniform, U8, I8, U16, I16, U32, I32, Plain}
+use Rattle.ras_tile.specs.Planes.{number_at, number_in, cell_in, cells_in, HasNumbers, Reaches, IsUniformPlane, ArePlanes}
+use Rattle.ras_tile.specs.Cells.{AreEqual, numbers_of}
 
--- there are as many cells as were asked for
-pub length-cells_of : (n width : ℕ) (xs : List ℤ) → length (cells_stored_in n width xs) ≡ n
-unfolding cells_stored_in
-length-cells_of zero width xs = refl
-length-cells_of (suc n) width xs = ap (λ k. suc k) (length-cells_of n width (drop width xs))
+-- ---- the list of cells
 
--- each is the one at its place
-pub slice_get-cells_of : (n width k : ℕ) (xs : List ℤ) → k < n → slice_get (cells_stored_in n width xs) k ≡ Some (nth_cell width xs k)
-unfolding cells_stored_in
-slice_get-cells_of zero width k xs h = absurd (omega arith)
-slice_get-cells_of (suc n) width zero xs h =
-    let none : 0 * width ≡ 0 = omega arith in
-    rw none refl
-slice_get-cells_of (suc n) width (suc k) xs h =
-    let more : width + k * width ≡ suc k * width = omega arith in
-    slice_get-cells_of n width k (drop width xs) (omega arith)
-    ∙ ap (λ ys. Some (take width ys)) (drop-drop (k * width) width xs ∙ ap (λ m. drop m xs) more)
+pub length-cells_in : (planes : List Plane) (n : ℕ) → length (cells_in planes n) ≡ n
+unfolding cells_in
+length-cells_in planes n = length-map-range_with_len (cell_in planes) 0 n
 
--- also read with a default
-get_or-cells_of : (n width k : ℕ) (xs : List ℤ) → k < n → get_or (cells_stored_in n width xs) k [] ≡ nth_cell width xs k
-get_or-cells_of n width k xs within =
-    get_or_from_slice_get (cells_stored_in n width xs) k (nth_cell width xs k) [] (slice_get-cells_of n width k xs within)
+pub get_or-cells_in : (planes : List Plane) (n k : ℕ) → k < n → get_or (cells_in planes n) k [] ≡ cell_in planes k
+unfolding cells_in
+get_or-cells_in planes n k within = get_or-map-range_with_len (cell_in planes) 0 n k k [] within (omega arith)
 
--- a cell has its width
-pub length-nth_cell : (width k : ℕ) (xs : List ℤ) → (k + 1) * width ≤ length xs → length (nth_cell width xs k) ≡ width
-length-nth_cell width k xs h =
-    length-take-le width (drop (k * width) xs) (omega (arith, length-drop (k * width) xs))
+pub slice_get-cells_in : (planes : List Plane) (n k : ℕ) → k < n → slice_get (cells_in planes n) k ≡ Some (cell_in planes k)
+slice_get-cells_in planes n k within =
+    slice_get-get_or (cells_in planes n) k [] (omega (arith, length-cells_in planes n))
+    ∙ ap (λ cell. Some cell) (get_or-cells_in planes n k within)
 
--- and so has each of the first n
-pub All-cells_of : (n width : ℕ) (xs : List ℤ) → length xs ≡ n * width → All (λ cell. length cell ≡ width) (cells_stored_in n width xs)
-All-cells_of n width xs whole =
-    λ k d below.
-    let within : k < n = omega (arith, length-cells_of n width xs) in
-    let up : k + 1 ≤ n = omega arith in
-    ap length (get_or_from_slice_get (cells_stored_in n width xs) k (nth_cell width xs k) d (slice_get-cells_of n width k xs within))
-    ∙ length-nth_cell width k xs (omega (arith, whole, mul-le-mul_right width up))
+-- planes with the same cells
+pub cells_in-same : (a b : List Plane) (n : ℕ) → ((k : ℕ) → k < n → cell_in a k ≡ cell_in b k) → cells_in a n ≡ cells_in b n
+cells_in-same a b n same =
+    ext_get_or [] (cells_in a n) (cells_in b n) (length-cells_in a n ∙ sym (length-cells_in b n))
+    (λ k within.
+    let below : k < n = omega (arith, length-cells_in a n) in
+    get_or-cells_in a n k below ∙ same k below ∙ sym (get_or-cells_in b n k below))
+
+-- equal cells
+pub cells_in-equal : (planes : List Plane) (n : ℕ) (cell : List ℤ) → ((k : ℕ) → k < n → cell_in planes k ≡ cell) → cells_in planes n ≡ replicate n cell
+cells_in-equal planes n cell same =
+    ext_get_or [] (cells_in planes n) (replicate n cell) (length-cells_in planes n ∙ sym (length-replicate n cell))
+    (λ k within.
+    let below : k < n = omega (arith, length-cells_in planes n) in
+    get_or-cells_in planes n k below ∙ same k below ∙ sym (get_or-replicate n k cell [] below))
+
+-- one cell written
+pub cells_in-set : (old new : List Plane) (n place : ℕ) (cell : List ℤ) → place < n → cell_in new place ≡ cell
+    → ((k : ℕ) → k ≢ place → cell_in new k ≡ cell_in old k) → cells_in new n ≡ set (cells_in old n) place cell
+cells_in-set old new n place cell inside written others =
+    ext_get_or [] (cells_in new n) (set (cells_in old n) place cell)
+    (length-cells_in new n ∙ sym (length-set (cells_in old n) place cell ∙ length-cells_in old n))
+    (λ k within.
+    let below : k < n = omega (arith, length-cells_in new n) in
+    get_or-cells_in new n k below
+    ∙ elim (cases_eq k place) [
+      | inl same ↦
+          ap (cell_in new) same ∙ written
+          ∙ sym (ap (λ j. get_or (set (cells_in old n) place cell) j []) same ∙ get_or-set_same (cells_in old n) place cell [] (omega (arith, length-cells_in old n)))
+      | inr apart ↦
+          others k apart ∙ sym (get_or-set_other (cells_in old n) place k cell [] apart ∙ get_or-cells_in old n k below)
+    ])
+
+-- each cell has a number for each plane
+pub All-cells_in : (planes : List Plane) (n width : ℕ) → length planes ≡ width → All (λ cell. length cell ≡ width) (cells_in planes n)
+All-cells_in planes n width long =
+    λ k d within.
+    let below : k < n = omega (arith, length-cells_in planes n) in
+    ap length (get_or_from_slice_get (cells_in planes n) k (cell_in planes k) d (slice_get-cells_in planes n k below))
+    ∙ length-map planes (λ plane. number_in plane k) ∙ long
+
+-- the number of a cell in one plane
+pub get_or-cell_in : (planes : List Plane) (plane : Plane) (i k : ℕ) → i < length planes → number_at (cell_in planes k) i ≡ number_in (get_or planes i plane) k
+get_or-cell_in planes plane i k within =
+    get_or-map (λ (q : Plane). number_in q k) planes i plane (pos 0) within
+
+-- ---- the numbers of a component
+
+pub length-numbers_of : (component : ℕ) (planes : List Plane) (n : ℕ) → length (numbers_of component (cells_in planes n)) ≡ n
+length-numbers_of component planes n =
+    length-map (cells_in planes n) (λ cell. get_or cell component (pos 0)) ∙ length-cells_in planes n
+
+pub number_at-numbers_of : (component : ℕ) (planes : List Plane) (plane : Plane) (n k : ℕ) → component < length planes → k < n
+    → number_at (numbers_of component (cells_in planes n)) k ≡ number_in (get_or planes component plane) k
+number_at-numbers_of component planes plane n k within below =
+    get_or-map (λ (cell : List ℤ). get_or cell component (pos 0)) (cells_in planes n) k [] (pos 0) (omega (arith, length-cells_in planes n))
+    ∙ ap (λ (cell : List ℤ). get_or cell component (pos 0)) (get_or-cells_in planes n k below)
+    ∙ get_or-cell_in planes plane component k within
 
 -- ---- equal cells
 
--- these numbers, n times
-abbrev pub times : ℕ → List ℤ → List ℤ
-times n xs = flat_map (λ ys. ys) (replicate n xs)
+-- each is the first
+pub AreEqual-first : (planes : List Plane) (n : ℕ) → 0 < n → AreEqual (cells_in planes n) → (k : ℕ) → k < n → cell_in planes k ≡ cell_in planes 0
+AreEqual-first planes n some equal k below =
+    let same : slice_get (cells_in planes n) k ≡ slice_get (cells_in planes n) 0 =
+    equal k 0 (omega (arith, length-cells_in planes n)) (omega (arith, length-cells_in planes n)) in
+    let here : slice_get (cells_in planes n) k ≡ Some (cell_in planes k) = slice_get-cells_in planes n k below in
+    let there : slice_get (cells_in planes n) 0 ≡ Some (cell_in planes 0) = slice_get-cells_in planes n 0 some in
+    cc
 
-pub length-times : (n : ℕ) (xs : List ℤ) → length (times n xs) ≡ n * length xs
-length-times zero xs = omega arith
-length-times (suc n) xs = omega (arith, length-append xs (times n xs), length-times n xs)
+pub AreEqual-from_first : (planes : List Plane) (n : ℕ) → ((k : ℕ) → k < n → cell_in planes k ≡ cell_in planes 0) → AreEqual (cells_in planes n)
+AreEqual-from_first planes n same =
+    λ j k here there.
+    let low : j < n = omega (arith, length-cells_in planes n) in
+    let high : k < n = omega (arith, length-cells_in planes n) in
+    slice_get-cells_in planes n j low ∙ ap (λ cell. Some cell) (same j low ∙ sym (same k high)) ∙ sym (slice_get-cells_in planes n k high)
 
--- the cells of equal numbers over and over
-pub cells_of-times : (n : ℕ) (xs : List ℤ) → cells_stored_in n (length xs) (times n xs) ≡ replicate n xs
-unfolding cells_stored_in
-cells_of-times zero xs = refl
-cells_of-times (suc n) xs =
-    rw (take_at xs (times n xs) (length xs) refl, drop_at xs (times n xs) (length xs) refl)
-    (ap (λ cs. xs ∷ cs) (cells_of-times n xs))
+-- planes of one number each have equal cells
+pub cell_in-uniform : (planes : List Plane) (k : ℕ) → All IsUniformPlane planes → cell_in planes k ≡ cell_in planes 0
+cell_in-uniform [] k uniform = refl
+cell_in-uniform (plane ∷ planes) k uniform =
+    ap (λ (z : ℤ). z ∷ cell_in planes k) (number_in-uniform plane k (All-head IsUniformPlane plane planes uniform))
+    ∙ ap (λ (zs : List ℤ). number_in plane 0 ∷ zs) (cell_in-uniform planes k (All-tail IsUniformPlane plane planes uniform))
+  where
+    number_in-uniform : (plane : Plane) (k : ℕ) → IsUniformPlane plane → number_in plane k ≡ number_in plane 0
+    number_in-uniform (Uniform number) k h = refl
+    number_in-uniform (U8 bytes) k h = absurd h
+    number_in-uniform (I8 bytes) k h = absurd h
+    number_in-uniform (U16 shorts) k h = absurd h
+    number_in-uniform (I16 shorts) k h = absurd h
+    number_in-uniform (U32 longs) k h = absurd h
+    number_in-uniform (I32 longs) k h = absurd h
+    number_in-uniform (Plain numbers) k h = absurd h
 
--- the only cell
-nth_cell-whole : (width : ℕ) (ys : List ℤ) → length ys ≡ width → nth_cell width ys (0 + 0) ≡ ys
-nth_cell-whole width ys long =
-    let none : (0 + 0) * width ≡ 0 = omega arith in
-    rw none (take_all width ys (omega arith))
+-- ---- how far a plane reaches
 
--- ---- after a write to the numbers of `count` cells from the place `at` on
+pub Reaches-within : (n m : ℕ) (plane : Plane) → m ≤ n → HasNumbers n plane → Reaches m plane
+Reaches-within n m (Uniform number) less whole = tt
+Reaches-within n m (U8 bytes) less whole = omega (arith, whole)
+Reaches-within n m (I8 bytes) less whole = omega (arith, whole)
+Reaches-within n m (U16 shorts) less whole = omega (arith, whole)
+Reaches-within n m (I16 shorts) less whole = omega (arith, whole)
+Reaches-within n m (U32 longs) less whole = omega (arith, whole)
+Reaches-within n m (I32 longs) less whole = omega (arith, whole)
+Reaches-within n m (Plain numbers) less whole = omega (arith, whole)
 
--- such a cell is the one that was written
-pub nth_cell-put_mid : (width at count m : ℕ) (xs ys : List ℤ) (k : ℕ) → (at + count) * width ≤ length xs → length ys ≡ count * width → k < count
-    → nth_cell width (put_mid (at * width) m xs ys) (at + k) ≡ nth_cell width ys k
-nth_cell-put_mid width at count m xs ys k fits long below =
-    let front : List ℤ = take (at * width) xs in
-    let back : List ℤ = post_of (at * width) m xs in
-    let before : length front ≡ at * width = length-take-le (at * width) xs (omega (arith, fits)) in
-    let reach : (at + k) * width ≡ length front + k * width = omega (arith, before) in
-    let up : k + 1 ≤ count = omega arith in
-    let room : (k + 1) * width ≤ count * width = mul-le-mul_right width up in
-    rw (reach, drop-append-add front (ys ++ back) (k * width), drop-append-le (k * width) ys back (omega (arith, room, long)))
-    (take-append-le width (drop (k * width) ys) back (omega (arith, room, long, length-drop (k * width) ys)))
+pub All-Reaches : (n m : ℕ) (planes : List Plane) → m ≤ n → All (HasNumbers n) planes → All (Reaches m) planes
+All-Reaches n m planes less whole =
+    λ i d within. Reaches-within n m (get_or planes i d) less (whole i d within)
 
--- and any other is as before
-pub nth_cell-put_mid_other : (width at count m : ℕ) (xs ys : List ℤ) (k : ℕ) → (at + count) * width ≤ length xs → length ys ≡ count * width → m ≡ count * width → (k < at) ⊎ (at + count ≤ k)
-    → nth_cell width (put_mid (at * width) m xs ys) k ≡ nth_cell width xs k
-nth_cell-put_mid_other width at count m xs ys k fits long same (inl below) =
-    let up : k + 1 ≤ at = omega arith in
-    let end : k * width + width ≤ at * width = omega (arith, mul-le-mul_right width up) in
-    sym (drop-take (k * width) width (put_mid (at * width) m xs ys))
-    ∙ ap (drop (k * width)) (take-put_mid_below (at * width) m xs ys (k * width + width) end (omega (arith, fits)))
-    ∙ drop-take (k * width) width xs
-nth_cell-put_mid_other width at count m xs ys k fits long same (inr above) =
-    let end : (at + count) * width ≤ k * width = mul-le-mul_right width above in
-    ap (take width) (drop-put_mid (at * width) m xs ys (k * width) (omega (arith, end, same)) (omega (arith, fits)) (omega (arith, long, same)))
+-- ---- planes that are made one by one
 
--- a cell of a part of the numbers
-pub nth_cell-part : (width from count m : ℕ) (xs : List ℤ) (k : ℕ) → m ≡ count * width → k < count
-    → nth_cell width (take m (drop (from * width) xs)) k ≡ nth_cell width xs (from + k)
-nth_cell-part width from count m xs k same below =
-    let up : k + 1 ≤ count = omega arith in
-    let rest : ℕ = count * width - k * width in
-    let room : (k + 1) * width ≤ count * width = mul-le-mul_right width up in
-    let split : m ≡ k * width + rest = omega (arith, room, same) in
-    let whole : from * width + k * width ≡ (from + k) * width = omega arith in
-    ap (λ n. take width (drop (k * width) (take n (drop (from * width) xs)))) split
-    ∙ ap (take width) (drop-take (k * width) rest (drop (from * width) xs))
-    ∙ take-take width rest (drop (k * width) (drop (from * width) xs)) (omega (arith, room))
-    ∙ ap (take width) (drop-drop (k * width) (from * width) xs ∙ ap (λ n. drop n xs) whole)
-
--- a write of one cell, over the list of cells
-pub cells_of-set : (n width at : ℕ) (old new ys : List ℤ) → length ys ≡ width → at < n
-    → ((k : ℕ) → k < 1 → nth_cell width new (at + k) ≡ nth_cell width ys (0 + k))
-    → ((k : ℕ) → (k < at) ⊎ (at + 1 ≤ k) → nth_cell width new k ≡ nth_cell width old k)
-    → cells_stored_in n width new ≡ set (cells_stored_in n width old) at ys
-cells_of-set n width at old new ys long below written others =
-    ext_get_or [] (cells_stored_in n width new) (set (cells_stored_in n width old) at ys)
-    (length-cells_of n width new ∙ sym (length-set (cells_stored_in n width old) at ys ∙ length-cells_of n width old))
-    (λ k within.
-    let inside : k < n = omega (arith, length-cells_of n width new) in
-    let here : get_or (cells_stored_in n width new) k [] ≡ nth_cell width new k = get_or-cells_of n width k new inside in
-    let there : get_or (cells_stored_in n width old) k [] ≡ nth_cell width old k = get_or-cells_of n width k old inside in
-    let other : (k < at) ⊎ (at + 1 ≤ k) → get_or (cells_stored_in n width new) k [] ≡ get_or (set (cells_stored_in n width old) at ys) k [] =
-    λ apart. here ∙ others k apart ∙ sym there ∙ sym (get_or-set_other (cells_stored_in n width old) at k ys [] (λ same. elim apart [ inl less ↦ omega arith | inr more ↦ omega arith ])) in
-    elim (cases_lt k at) [
-      | inl less ↦ other (inl less)
-      | inr not_less ↦ elim (cases_eq k at) [
-        | inl same ↦
-            here ∙ ap (nth_cell width new) (omega arith) ∙ written 0 (omega arith) ∙ nth_cell-whole width ys long
-            ∙ sym (ap (λ j. get_or (set (cells_stored_in n width old) at ys) j []) same ∙ get_or-set_same (cells_stored_in n width old) at ys [] (omega (arith, length-cells_of n width old)))
-        | inr apart ↦ other (inr (omega arith))
-      ]
-    ])
-
--- ---- tiles
-
--- the tile with these cells
-abbrev pub tile_of : List Interval → ℕ → List ℤ → Bool → TileValue
-tile_of box width numbers writable =
-    record { region = box; width = width; cells = cells_stored_in (length (points_of box)) width numbers; writable = writable }
-
--- the cells of numbers that are stored whole are a tile's
-pub IsTile-stored : (box : List Interval) (width : ℕ) (numbers : List ℤ) (writable : Bool) → IsStored box width numbers → IsTile (tile_of box width numbers writable)
-IsTile-stored box width numbers writable stored = record {
-  box = stored.region;
-  few_cells = stored.few_cells;
-  few_numbers = stored.few_numbers;
-  each_point = length-cells_of (length (points_of box)) width numbers;
-  each_width = All-cells_of (length (points_of box)) width numbers stored.whole;
+pub ArePlanes-none : (n : ℕ) (kept : ℕ → Plane → Type 0) (cell : ℕ → List ℤ) → ArePlanes n kept (λ k. take 0 (cell k)) []
+ArePlanes-none n kept cell = record {
+  cells = λ k below. refl;
+  whole = λ i d within. absurd (omega arith);
+  kinds = λ i plane within. absurd (omega arith);
 }
 
--- the numbers of the cells from one place to another are stored
-pub IsStored-room : (box : List Interval) (width : ℕ) (numbers : List ℤ) (at count : ℕ) → length numbers ≡ length (points_of box) * width → at + count ≤ length (points_of box)
-    → (at + count) * width ≤ length numbers
-IsStored-room box width numbers at count whole within =
-    omega (arith, whole, mul-le-mul_right width within)
+-- each is kept as it should be, also the new one
+kinds_more : (kept : ℕ → Plane → Type 0) (planes : List Plane) (plane : Plane) (i : ℕ) → length planes ≡ i
+    → ((j : ℕ) (q : Plane) → j < length planes → kept j (get_or planes j q)) → kept i plane
+    → (j : ℕ) (q : Plane) → j < length (planes ++ plane ∷ []) → kept j (get_or (planes ++ plane ∷ []) j q)
+kinds_more kept planes plane i long kinds kind =
+    λ j q within.
+    elim (cases_lt j i) [
+      | inl less ↦
+          let below : j < length planes = omega arith in
+          subst (kept j) (sym (get_or_append_left planes (plane ∷ []) q j below)) (kinds j q below)
+      | inr not_less ↦
+          let last : i ≡ j = omega (arith, length_push planes plane) in
+          subst (λ (m : ℕ). kept m (get_or (planes ++ plane ∷ []) m q)) last (subst (kept i) (sym (get_or_push planes plane q i long)) kind)
+    ]
 
--- the cell at a point of the box
-pub cell_at-stored : (box : List Interval) (width : ℕ) (numbers : List ℤ) (p : List ℤ) → IsIn p box
-    → slice_get (cells_stored_in (length (points_of box)) width numbers) (place_in_rows box p) ≡ Some (nth_cell width numbers (place_in_rows box p))
-cell_at-stored box width numbers p inside =
-    slice_get-cells_of (length (points_of box)) width (place_in_rows box p) numbers (place-within box p inside)
-
--- the numbers of equal cells are stored whole
-pub IsStored-times : (box : List Interval) (xs numbers : List ℤ) → IsRegion box → length (points_of box) ≤ MAX_TILE_CELLS → length xs ≤ MAX_COMPONENTS
-    → numbers ≡ times (length (points_of box)) xs → IsStored box (length xs) numbers
-IsStored-times box xs numbers region few narrow is = record {
-  region = region;
-  few_cells = few;
-  few_numbers = narrow;
-  whole = ap length is ∙ length-times (length (points_of box)) xs;
+-- one more plane
+pub ArePlanes-more : (n i : ℕ) (kept : ℕ → Plane → Type 0) (cell : ℕ → List ℤ) (planes : List Plane) (plane : Plane)
+    → ArePlanes n kept (λ k. take i (cell k)) planes → length planes ≡ i → ((k : ℕ) → k < n → i < length (cell k))
+    → HasNumbers n plane → kept i plane → ((k : ℕ) → k < n → number_in plane k ≡ number_at (cell k) i)
+    → ArePlanes n kept (λ k. take (i + 1) (cell k)) (planes ++ plane ∷ [])
+ArePlanes-more n i kept cell planes plane made long wide whole kind is = record {
+  cells = λ k below.
+      map_push (λ (q : Plane). number_in q k) planes plane
+      ∙ ap (λ (zs : List ℤ). zs ++ number_in plane k ∷ []) (made.cells k below)
+      ∙ ap (λ (z : ℤ). take i (cell k) ++ z ∷ []) (is k below)
+      ∙ sym (take_more (cell k) i (pos 0) (wide k below));
+  whole = All-push (HasNumbers n) planes plane made.whole whole;
+  kinds = kinds_more kept planes plane i long made.kinds kind;
 }
 
--- as many numbers in place of these
-pub IsStored-same : {box : List Interval} {width : ℕ} {old : List ℤ} (new : List ℤ) → IsStored box width old → length new ≡ length old → IsStored box width new
-IsStored-same new stored same = record {
-  region = stored.region;
-  few_cells = stored.few_cells;
-  few_numbers = stored.few_numbers;
-  whole = same ∙ stored.whole;
+-- all planes
+pub ArePlanes-all : (n i : ℕ) (kept : ℕ → Plane → Type 0) (cell : ℕ → List ℤ) (planes : List Plane)
+    → ArePlanes n kept (λ k. take i (cell k)) planes → ((k : ℕ) → k < n → length (cell k) ≤ i) → ArePlanes n kept cell planes
+ArePlanes-all n i kept cell planes made short = record {
+  cells = λ k below. made.cells k below ∙ take_all i (cell k) (short k below);
+  whole = made.whole;
+  kinds = made.kinds;
 }
 
--- after a write of one element, that one
-slice_get-set_same : {X : Type 0} (xs : List X) (k : ℕ) (y : X) → k < length xs → slice_get (set xs k y) k ≡ Some y
-slice_get-set_same [] k y h = absurd (omega arith)
-slice_get-set_same (x ∷ xs) zero y h = refl
-slice_get-set_same (x ∷ xs) (suc k) y h = slice_get-set_same xs k y (omega arith)
+-- a cell is as wide as there are planes
+pub length-cell_in : (planes : List Plane) (k : ℕ) → length (cell_in planes k) ≡ length planes
+length-cell_in planes k = length-map planes (λ (plane : Plane). number_in plane k)
 
--- and the others
-slice_get-set_other : {X : Type 0} (xs : List X) (k j : ℕ) (y : X) → (j ≡ k → ⊥) → slice_get (set xs k y) j ≡ slice_get xs j
-slice_get-set_other [] k j y apart = refl
-slice_get-set_other (x ∷ xs) zero zero y apart = absurd (apart refl)
-slice_get-set_other (x ∷ xs) zero (suc j) y apart = refl
-slice_get-set_other (x ∷ xs) (suc k) zero y apart = refl
-slice_get-set_other (x ∷ xs) (suc k) (suc j) y apart = slice_get-set_other xs k j y (λ same. apart (omega arith))
+-- a plane in place of another
+pub cell_in-set : (planes : List Plane) (i : ℕ) (plane : Plane) (k : ℕ) → cell_in (set planes i plane) k ≡ set (cell_in planes k) i (number_in plane k)
+cell_in-set planes i plane k = map-set (λ (q : Plane). number_in q k) planes i plane
 
--- the cell that was written, at its point
-pub cell_at-set : (tile : TileValue) (p numbers : List ℤ) → IsTile tile → IsIn p tile.region
-    → tile_cell_at (record tile { cells = set tile.cells (place_in_rows tile.region p) numbers }) p ≡ Some numbers
-cell_at-set tile p numbers tiled inside =
-    slice_get-set_same tile.cells (place_in_rows tile.region p) numbers (omega (arith, tiled.each_point, place-within tile.region p inside))
+-- ---- numbers that are kept in another type
 
--- and those at the other points
-pub cell_at-set_other : (tile : TileValue) (p q numbers : List ℤ) → IsIn p tile.region → IsIn q tile.region → (q ≡ p → ⊥)
-    → tile_cell_at (record tile { cells = set tile.cells (place_in_rows tile.region p) numbers }) q ≡ tile_cell_at tile q
-cell_at-set_other tile p q numbers inside here differ =
-    slice_get-set_other tile.cells (place_in_rows tile.region p) (place_in_rows tile.region q) numbers (λ same. differ (place-one tile.region q p here inside same))
+-- the number at a place
+pub at_map : {X : Type 0} (f : X → ℤ) (xs : List X) (k : ℕ) (x : X) → k < length xs → x ≡ get_or xs k x → number_at (map f xs) k ≡ f x
+at_map f xs k x within is = get_or-map f xs k x (pos 0) within ∙ ap f (sym is)
 
--- one cell written, over the whole tile
-pub tile_of-set : (box : List Interval) (width : ℕ) (old new p numbers : List ℤ) (writable : Bool) → IsIn p box → length numbers ≡ width
-    → ((k : ℕ) → k < 1 → nth_cell width new (place_in_rows box p + k) ≡ nth_cell width numbers (0 + k))
-    → ((k : ℕ) → (k < place_in_rows box p) ⊎ (place_in_rows box p + 1 ≤ k) → nth_cell width new k ≡ nth_cell width old k)
-    → tile_of box width new writable ≡ record (tile_of box width old writable) { cells = set (cells_stored_in (length (points_of box)) width old) (place_in_rows box p) numbers }
-tile_of-set box width old new p numbers writable inside long written others =
-    let same : cells_stored_in (length (points_of box)) width new ≡ set (cells_stored_in (length (points_of box)) width old) (place_in_rows box p) numbers =
-    cells_of-set (length (points_of box)) width (place_in_rows box p) old new numbers long (place-within box p inside) written others in
-    rw same refl
+-- the first one
+pub at_first : {X : Type 0} (f : X → ℤ) (xs : List X) (x : X) → Some x ≡ slice_get xs 0 → number_at (map f xs) 0 ≡ f x
+at_first f xs x is =
+    get_or-map f xs 0 x (pos 0) (slice_get_within xs 0 x (sym is)) ∙ ap f (get_or_from_slice_get xs 0 x x (sym is))
 
--- tiles on one box with the same cell at each point have the same cells
-pub cells-same : (a b : TileValue) → IsTile a → IsTile b → a.region ≡ b.region → ((p : List ℤ) → IsIn p a.region → tile_cell_at a p ≡ tile_cell_at b p) → a.cells ≡ b.cells
-cells-same a b left right same each =
-    let long : length a.cells ≡ length b.cells = omega (arith, left.each_point, right.each_point, ap (λ box. length (points_of box)) same) in
-    ext_get_or [] a.cells b.cells long
-    (λ k within.
-    let below : k < length (points_of a.region) = omega (arith, left.each_point) in
-    let p : List ℤ = get_or (points_of a.region) k [] in
-    let at : slice_get (points_of a.region) k ≡ Some p = slice_get-get_or (points_of a.region) k [] below in
-    let inside : IsIn p a.region = (Contains-IsIn a.region p).0 (k, below, get_or_default (points_of a.region) k p [] below) in
-    let place : place_in_rows a.region p ≡ k = place_in_rows-at a.region k p at in
-    let there : place_in_rows b.region p ≡ k = ap (λ box. place_in_rows box p) (sym same) ∙ place in
-    let equal : slice_get a.cells k ≡ slice_get b.cells k = ap (slice_get a.cells) (sym place) ∙ each p inside ∙ ap (slice_get b.cells) there in
-    same_Some (get_or a.cells k []) (get_or b.cells k [])
-    (sym (slice_get-get_or a.cells k [] within) ∙ equal ∙ slice_get-get_or b.cells k [] (omega (arith, within, long))))
+-- lists of as many equal numbers
+pub same_numbers : (xs ys : List ℤ) → length ys ≡ length xs → ((k : ℕ) → k < length xs → number_at xs k ≡ number_at ys k) → xs ≡ ys
+same_numbers xs ys long same = ext_get_or (pos 0) xs ys (sym long) same
+
+-- one number written
+pub narrow_more : {X : Type 0} (f : X → ℤ) (kept : List X) (x : X) (i : ℕ) (numbers : List ℤ) → i < length kept
+    → ((k : ℕ) → k < i → number_at (map f kept) k ≡ number_at numbers k) → f x ≡ number_at numbers i
+    → (k : ℕ) → k < i + 1 → number_at (map f (set kept i x)) k ≡ number_at numbers k
+narrow_more f kept x i numbers within before here =
+    below_more _ _
+    (λ k h.
+    let apart : k ≢ i = omega arith in
+    ap (λ (zs : List ℤ). number_at zs k) (map-set f kept i x) ∙ get_or-set_other (map f kept) i k (f x) (pos 0) apart ∙ before k h)
+    (ap (λ (zs : List ℤ). number_at zs i) (map-set f kept i x) ∙ get_or-set_same (map f kept) i (f x) (pos 0) (omega (arith, length-map kept f)) ∙ here)
+
+-- whether all numbers are equal, of those that a plane keeps
+pub constant_kept : {X : Type 0} (f : X → ℤ) (items xs : List X) (n : ℕ) (r : Bool) → xs ≡ items
+    → (IsTrue r ↔ ((k : ℕ) → k < length xs → number_at (map f xs) k ≡ number_at (map f xs) 0)) → length items ≡ n
+    → IsTrue r ↔ ((k : ℕ) → k < n → number_at (map f items) k ≡ number_at (map f items) 0)
+constant_kept f items xs n r is h long =
+    subst (λ (m : ℕ). IsTrue r ↔ ((k : ℕ) → k < m → number_at (map f items) k ≡ number_at (map f items) 0)) long
+    (subst (λ (ys : List _). IsTrue r ↔ ((k : ℕ) → k < length ys → number_at (map f ys) k ≡ number_at (map f ys) 0)) is h)
+
+pub constant_wide : (items xs : List ℤ) (n : ℕ) (r : Bool) → xs ≡ items
+    → (IsTrue r ↔ ((k : ℕ) → k < length xs → number_at (map (λ (z : ℤ). z) xs) k ≡ number_at (map (λ (z : ℤ). z) xs) 0)) → length items ≡ n
+    → IsTrue r ↔ ((k : ℕ) → k < n → number_at items k ≡ number_at items 0)
+constant_wide items xs n r is h long =
+    subst (λ (ys : List ℤ). IsTrue r ↔ ((k : ℕ) → k < n → number_at ys k ≡ number_at ys 0)) (map-id items) (constant_kept (λ (z : ℤ). z) items xs n r is h long)
+
+-- the numbers of a plane are those that are lent
+pub lent_unsigned : (numbers : List ℤ) (items xs : List ℕ) → xs ≡ items → length items ≡ length numbers
+    → ((k : ℕ) → k < length numbers → number_at numbers k ≡ number_at (map pos items) k) → numbers ≡ map pos xs
+lent_unsigned numbers items xs is long same =
+    same_numbers numbers (map pos items) (length-map items pos ∙ long) same ∙ ap (map pos) (sym is)
+
+pub lent_signed : (numbers items xs : List ℤ) → xs ≡ items → length items ≡ length numbers
+    → ((k : ℕ) → k < length numbers → number_at numbers k ≡ number_at items k) → numbers ≡ xs
+lent_signed numbers items xs is long same = same_numbers numbers items long same ∙ sym is
+
+-- ---- ranges
+
+pub All-in_range : (atom : Atom) (numbers : List ℤ) (n : ℕ) → length numbers ≡ n → ((k : ℕ) → k < n → IsInRange atom (number_at numbers k)) → All (IsInRange atom) numbers
+All-in_range atom numbers n long range =
+    All-from_get_or (IsInRange atom) numbers (pos 0) (λ i within. range i (omega arith))
+
+-- one number of those that are in range
+pub AreInRange-at : (atoms : List Atom) (numbers : List ℤ) (i : ℕ) (atom : Atom) → AreInRange atoms numbers → i < length atoms → IsInRange (get_or atoms i atom) (number_at numbers i)
+AreInRange-at [] numbers i atom h within = absurd (omega arith)
+AreInRange-at (a ∷ atoms) [] i atom h within = absurd h
+AreInRange-at (a ∷ atoms) (z ∷ numbers) zero atom h within = h.0
+AreInRange-at (a ∷ atoms) (z ∷ numbers) (suc i) atom h within = AreInRange-at atoms numbers i atom h.1 (omega arith)
+
+-- ---- the first planes
+
+-- the cells of one more plane
+pub cell_in-more : (planes : List Plane) (i : ℕ) (plane : Plane) (k : ℕ) → i < length planes → plane ≡ get_or planes i plane
+    → take (i + 1) (cell_in planes k) ≡ take i (cell_in planes k) ++ number_in plane k ∷ []
+cell_in-more planes i plane k within is =
+    take_more (cell_in planes k) i (pos 0) (omega (arith, length-cell_in planes k))
+    ∙ ap (λ (z : ℤ). take i (cell_in planes k) ++ z ∷ []) (get_or-cell_in planes plane i k within ∙ ap (λ (q : Plane). number_in q k) (sym is))
+
+-- the number of a cell in the plane at a place
+pub number_in-at : (planes : List Plane) (i : ℕ) (plane : Plane) (k : ℕ) → i < length planes → plane ≡ get_or planes i plane → number_in plane k ≡ number_at (cell_in planes k) i
+number_in-at planes i plane k within is =
+    ap (λ (q : Plane). number_in q k) is ∙ sym (get_or-cell_in planes plane i k within)
+
+-- what holds of each plane holds of the one at a place
+pub All-at : (P : Plane → Type 0) (planes : List Plane) (i : ℕ) (plane : Plane) → i < length planes → plane ≡ get_or planes i plane → All P planes → P plane
+All-at P planes i plane within is all = subst P (sym is) (all i plane within)
+
+-- the first planes have equal cells where they had and the next has equal numbers
+pub equal_more : (planes : List Plane) (i : ℕ) (plane : Plane) (k : ℕ) → i < length planes → plane ≡ get_or planes i plane
+    → cell_in (take i planes) k ≡ cell_in (take i planes) 0 → number_in plane k ≡ number_in plane 0
+    → cell_in (take (i + 1) planes) k ≡ cell_in (take (i + 1) planes) 0
+equal_more planes i plane k within is before here =
+    let more : take (i + 1) planes ≡ take i planes ++ plane ∷ [] = take_more planes i plane within ∙ ap (λ (q : Plane). take i planes ++ q ∷ []) (sym is) in
+    ap (λ (ps : List Plane). cell_in ps k) more
+    ∙ map_push (λ (q : Plane). number_in q k) (take i planes) plane
+    ∙ ap (λ (zs : List ℤ). zs ++ number_in plane k ∷ []) before
+    ∙ ap (λ (z : ℤ). cell_in (take i planes) 0 ++ z ∷ []) here
+    ∙ sym (ap (λ (ps : List Plane). cell_in ps 0) more ∙ map_push (λ (q : Plane). number_in q 0) (take i planes) plane)
+
+-- one plane was written: its cell up to there
+pub written_more : (planes : List Plane) (i : ℕ) (plane : Plane) (k : ℕ) (numbers : List ℤ) → i < length planes → i < length numbers
+    → take i (cell_in planes k) ≡ take i numbers → number_in plane k ≡ number_at numbers i
+    → take (i + 1) (cell_in (set planes i plane) k) ≡ take (i + 1) numbers
+written_more planes i plane k numbers within below before here =
+    ap (take (i + 1)) (cell_in-set planes i plane k)
+    ∙ take_more_set (cell_in planes k) i (number_in plane k) (omega (arith, length-cell_in planes k))
+    ∙ ap (λ (zs : List ℤ). zs ++ number_in plane k ∷ []) before
+    ∙ ap (λ (z : ℤ). take i numbers ++ z ∷ []) here
+    ∙ sym (take_more numbers i (pos 0) below)
+
+-- and the cells that it kept
+pub kept_more : (planes : List Plane) (i : ℕ) (d plane : Plane) (k : ℕ) → i < length planes
+    → number_in plane k ≡ number_in (get_or planes i d) k → cell_in (set planes i plane) k ≡ cell_in planes k
+kept_more planes i d plane k within same =
+    cell_in-set planes i plane k
+    ∙ ap (set (cell_in planes k) i) (same ∙ sym (get_or-cell_in planes d i k within))
+    ∙ set-get_or (cell_in planes k) i (pos 0)

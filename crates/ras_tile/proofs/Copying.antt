@@ -6,7 +6,8 @@ use Rattle.ras_domain.specs.declared.region.Interval.{Interval}
 use Rattle.ras_domain.specs.Region.{IsIn, points_of, place_in_rows}
 use Rattle.ras_domain.proofs.Points.{length-from_IsIn, Contains-IsIn}
 use Rattle.ras_domain.proofs.RowOrder.{place_in_rows-at}
-use Rattle.ras_tile.specs.Stored.{nth_cell, along}
+use Rattle.ras_tile.specs.Stored.{along}
+use Rattle.ras_tile.specs.Planes.{number_at}
 use Rattle.ras_tile.proofs.RowPlaces.{slice_get-place, place-within, place-along, IsIn-along, row_or_apart}
 
 -- how many points of the box come before the next one
@@ -23,17 +24,17 @@ done_of-at axes place within =
     ]
 
 -- a copy of the cells at the points of `region` that come before `next`; the other cells are as before
-pub record IsCopying (to_box from_box region : List Interval) (width : ℕ) (old source new : List ℤ) (next : Option (List ℤ)) : Type 0 where
+pub record IsCopying (to_box from_box region : List Interval) (old : List ℤ) (source : ℕ → ℤ) (new : List ℤ) (next : Option (List ℤ)) : Type 0 where
   pub long : length new ≡ length old
   pub next_is : next ≡ slice_get (points_of region) (done_of region next)
   pub copied : (q : List ℤ) → IsIn q region → place_in_rows region q < done_of region next
-      → nth_cell width new (place_in_rows to_box q) ≡ nth_cell width source (place_in_rows from_box q)
+      → number_at new (place_in_rows to_box q) ≡ source (place_in_rows from_box q)
   pub others : (q : List ℤ) → IsIn q to_box → (IsIn q region → done_of region next ≤ place_in_rows region q)
-      → nth_cell width new (place_in_rows to_box q) ≡ nth_cell width old (place_in_rows to_box q)
+      → number_at new (place_in_rows to_box q) ≡ number_at old (place_in_rows to_box q)
 
 -- before the first point
-pub IsCopying-first : {to_box from_box region : List Interval} {width : ℕ} {old source p : List ℤ} → slice_get (points_of region) 0 ≡ Some p
-    → IsCopying to_box from_box region width old source old (Some p)
+pub IsCopying-first : {to_box from_box region : List Interval} {source : ℕ → ℤ} {old p : List ℤ} → slice_get (points_of region) 0 ≡ Some p
+    → IsCopying to_box from_box region old source old (Some p)
 IsCopying-first {region = region} {p = p} first =
     let none : place_in_rows region p ≡ 0 = place_in_rows-at region 0 p first in
     record {
@@ -44,7 +45,7 @@ IsCopying-first {region = region} {p = p} first =
     }
 
 -- the next point is one of the region
-pub IsCopying-within : {to_box from_box region : List Interval} {width : ℕ} {old source new p : List ℤ} → IsCopying to_box from_box region width old source new (Some p) → IsIn p region
+pub IsCopying-within : {to_box from_box region : List Interval} {source : ℕ → ℤ} {old new p : List ℤ} → IsCopying to_box from_box region old source new (Some p) → IsIn p region
 IsCopying-within {region = region} {p = p} h =
     let at : slice_get (points_of region) (place_in_rows region p) ≡ Some p = sym h.next_is in
     (Contains-IsIn region p).0
@@ -68,16 +69,16 @@ apart_from place start j k is few (inl before) = omega arith
 apart_from place start j k is few (inr behind) = omega arith
 
 -- after the row of p, that is from p to k further on
-pub IsCopying-more : {to_box from_box region : List Interval} {width : ℕ} {old source new p : List ℤ} (newer : List ℤ) (k : ℕ) (next : Option (List ℤ))
-    → IsCopying to_box from_box region width old source new (Some p) → 0 < length region
+pub IsCopying-more : {to_box from_box region : List Interval} {source : ℕ → ℤ} {old new p : List ℤ} (newer : List ℤ) (k : ℕ) (next : Option (List ℤ))
+    → IsCopying to_box from_box region old source new (Some p) → 0 < length region
     → ((q : List ℤ) → IsIn q region → IsIn q to_box) → ((q : List ℤ) → IsIn q region → IsIn q from_box)
     → IsIn (along p k) region
     → ((place : ℕ) → slice_get (points_of region) place ≡ Some (along p k) → next ≡ slice_get (points_of region) (place + 1))
     → length newer ≡ length new
-    → ((j : ℕ) → j < k + 1 → nth_cell width newer (place_in_rows to_box p + j) ≡ nth_cell width source (place_in_rows from_box p + j))
-    → ((j : ℕ) → (j < place_in_rows to_box p) ⊎ (place_in_rows to_box p + (k + 1) ≤ j) → nth_cell width newer j ≡ nth_cell width new j)
-    → (IsCopying to_box from_box region width old source newer next) × (done_of region next ≡ place_in_rows region p + (k + 1))
-IsCopying-more {to_box = to_box} {from_box = from_box} {region = region} {width = width} {source = source} {p = p} newer k next h some to_covers from_covers end after long written kept =
+    → ((j : ℕ) → j < k + 1 → number_at newer (place_in_rows to_box p + j) ≡ source (place_in_rows from_box p + j))
+    → ((j : ℕ) → (j < place_in_rows to_box p) ⊎ (place_in_rows to_box p + (k + 1) ≤ j) → number_at newer j ≡ number_at new j)
+    → (IsCopying to_box from_box region old source newer next) × (done_of region next ≡ place_in_rows region p + (k + 1))
+IsCopying-more {to_box = to_box} {from_box = from_box} {region = region} {source = source} {p = p} newer k next h some to_covers from_covers end after long written kept =
     let inside : IsIn p region = IsCopying-within h in
     let to_axes : 0 < length to_box = axes_of_cover to_box region p inside (to_covers p inside) some in
     let from_axes : 0 < length from_box = axes_of_cover from_box region p inside (from_covers p inside) some in
@@ -99,9 +100,9 @@ IsCopying-more {to_box = to_box} {from_box = from_box} {region = region} {width 
         copied = λ q here less.
             elim (row_or_apart to_box p q k to_axes (to_covers p inside) (to_covers (along p k) end) (to_covers q here)) [
               | inl row ↦
-                  ap (nth_cell width newer) (ap (place_in_rows to_box) row.2 ∙ to_place row.0 row.1)
+                  ap (number_at newer) (ap (place_in_rows to_box) row.2 ∙ to_place row.0 row.1)
                   ∙ written row.0 row.1
-                  ∙ ap (nth_cell width source) (sym (ap (place_in_rows from_box) row.2 ∙ from_place row.0 row.1))
+                  ∙ ap source (sym (ap (place_in_rows from_box) row.2 ∙ from_place row.0 row.1))
               | inr apart ↦
                   kept (place_in_rows to_box q) apart
                   ∙ h.copied q here (elim (row_or_apart region p q k some inside end here) [
@@ -124,10 +125,10 @@ IsCopying-more {to_box = to_box} {from_box = from_box} {region = region} {width 
     )
 
 -- after the last point
-pub IsCopying-copied : {to_box from_box region : List Interval} {width : ℕ} {old source new : List ℤ} → IsCopying to_box from_box region width old source new None
-    → (q : List ℤ) → IsIn q region → nth_cell width new (place_in_rows to_box q) ≡ nth_cell width source (place_in_rows from_box q)
+pub IsCopying-copied : {to_box from_box region : List Interval} {source : ℕ → ℤ} {old new : List ℤ} → IsCopying to_box from_box region old source new None
+    → (q : List ℤ) → IsIn q region → number_at new (place_in_rows to_box q) ≡ source (place_in_rows from_box q)
 IsCopying-copied {region = region} h q inside = h.copied q inside (place-within region q inside)
 
-pub IsCopying-others : {to_box from_box region : List Interval} {width : ℕ} {old source new : List ℤ} → IsCopying to_box from_box region width old source new None
-    → (q : List ℤ) → IsIn q to_box → (IsIn q region → ⊥) → nth_cell width new (place_in_rows to_box q) ≡ nth_cell width old (place_in_rows to_box q)
+pub IsCopying-others : {to_box from_box region : List Interval} {source : ℕ → ℤ} {old new : List ℤ} → IsCopying to_box from_box region old source new None
+    → (q : List ℤ) → IsIn q to_box → (IsIn q region → ⊥) → number_at new (place_in_rows to_box q) ≡ number_at old (place_in_rows to_box q)
 IsCopying-others h q inside out = h.others q inside (λ within. absurd (out within))

@@ -1,37 +1,78 @@
-//! Cells that stand side by side in one list of numbers, and their copying by rows.
-ghost use Rattle.std.specs.Prelude.{◌≡◌, ◌+◌, ◌*◌, ◌<◌, ◌≤◌, ◌⊎◌, ℕ, ℤ, List, length};
+//! The copying of cells between planes, a row at a time.
+ghost use Rattle.std.specs.Prelude.{◌≡◌, ◌+◌, ◌<◌, ◌≤◌, ◌⊎◌, ℕ, ℤ, List, length, All};
 ghost use Rattle.ras_domain.specs.Region.{IsIn, IsRegion, points_of, place_in_rows};
-ghost use Rattle.ras_tile.specs.Stored.{nth_cell, along};
+ghost use Rattle.ras_tile.specs.Planes.{number_at, number_in, cell_in, HasNumbers, Reaches, IsPlainPlane};
+ghost use Rattle.ras_tile.specs.Stored.{along};
 
+use crate::plane::Plane;
 use ras_domain::{Interval, Region};
 
-/// Copies the cells at the points of `region`, a row at a time: the cells of a row stand side by
-/// side in both lists.
-pub(crate) fn copy_rows(
-    to: &mut [i64],
+/// Copies the cells at the points of `region`, plane by plane.
+pub(crate) fn copy_planes(
+    to: &mut [Plane],
     to_box: &Region,
-    from: &[i64],
+    from: &[Plane],
     from_box: &Region,
     region: &Region,
-    width: usize,
 )
-    requires to_whole { length to.old ≡ length (points_of to_box.now) * width }
-    requires from_whole { length from.now ≡ length (points_of from_box.now) * width }
+    requires as_many { length to.old ≡ length from.now }
+    requires plain { All IsPlainPlane to.old }
+    requires to_whole { All (HasNumbers (length (points_of to_box.now))) to.old }
+    requires from_whole { All (HasNumbers (length (points_of from_box.now))) from.now }
     requires to_covers { (p : List ℤ) → IsIn p region.now → IsIn p to_box.now }
     requires from_covers { (p : List ℤ) → IsIn p region.now → IsIn p from_box.now }
     ensures copied { (p : List ℤ) → IsIn p region.now
-        → nth_cell width to.new (place_in_rows to_box.now p)
-        ≡ nth_cell width from.now (place_in_rows from_box.now p) }
+        → cell_in to.new (place_in_rows to_box.now p) ≡ cell_in from.now (place_in_rows from_box.now p) }
     ensures others { (p : List ℤ) → IsIn p to_box.now → ¬ IsIn p region.now
-        → nth_cell width to.new (place_in_rows to_box.now p)
-        ≡ nth_cell width to.old (place_in_rows to_box.now p) }
+        → cell_in to.new (place_in_rows to_box.now p) ≡ cell_in to.old (place_in_rows to_box.now p) }
+    ensures plain { All IsPlainPlane to.new }
+    ensures whole { All (HasNumbers (length (points_of to_box.now))) to.new }
+{
+    for i in 0..to.len() {
+        copy_plane(&mut to[i], to_box, &from[i], from_box, region);
+    }
+}
+
+/// Copies the numbers of the cells at the points of `region`.
+fn copy_plane(to: &mut Plane, to_box: &Region, from: &Plane, from_box: &Region, region: &Region)
+    requires plain { IsPlainPlane to.old }
+    requires to_whole { HasNumbers (length (points_of to_box.now)) to.old }
+    requires from_whole { HasNumbers (length (points_of from_box.now)) from.now }
+    requires to_covers { (p : List ℤ) → IsIn p region.now → IsIn p to_box.now }
+    requires from_covers { (p : List ℤ) → IsIn p region.now → IsIn p from_box.now }
+    ensures copied { (p : List ℤ) → IsIn p region.now
+        → number_in to.new (place_in_rows to_box.now p) ≡ number_in from.now (place_in_rows from_box.now p) }
+    ensures others { (p : List ℤ) → IsIn p to_box.now → ¬ IsIn p region.now
+        → number_in to.new (place_in_rows to_box.now p) ≡ number_in to.old (place_in_rows to_box.now p) }
+    ensures plain { IsPlainPlane to.new }
+    ensures whole { HasNumbers (length (points_of to_box.now)) to.new }
+{
+    match to {
+        Plane::Plain(numbers) => {
+            copy_rows(numbers.as_mut_slice(), to_box, from, from_box, region)
+        }
+        _ => unreachable!(),
+    }
+}
+
+/// Copies the numbers of the cells at the points of `region`, a row at a time: those of a row stand
+/// side by side in both.
+fn copy_rows(to: &mut [i64], to_box: &Region, from: &Plane, from_box: &Region, region: &Region)
+    requires to_whole { length to.old ≡ length (points_of to_box.now) }
+    requires from_whole { HasNumbers (length (points_of from_box.now)) from.now }
+    requires to_covers { (p : List ℤ) → IsIn p region.now → IsIn p to_box.now }
+    requires from_covers { (p : List ℤ) → IsIn p region.now → IsIn p from_box.now }
+    ensures copied { (p : List ℤ) → IsIn p region.now
+        → number_at to.new (place_in_rows to_box.now p) ≡ number_in from.now (place_in_rows from_box.now p) }
+    ensures others { (p : List ℤ) → IsIn p to_box.now → ¬ IsIn p region.now
+        → number_at to.new (place_in_rows to_box.now p) ≡ number_at to.old (place_in_rows to_box.now p) }
 {
     let mut next = Some(region.first_point());
     while let Some(mut p) = next {
         let to_place = to_box.row_place(&p) as usize;
         let from_place = from_box.row_place(&p) as usize;
         let steps = finish_row(region.axes(), p.as_mut_slice()) as usize;
-        copy_cells(to, to_place, from, from_place, steps + 1, width);
+        copy_cells(to, to_place, from, from_place, steps + 1);
         next = region.next_point(&p);
     }
 }
@@ -50,24 +91,12 @@ fn finish_row(axes: &[Interval], p: &mut [i64]) -> u64
     steps
 }
 
-/// Copies this many cells from one place to another.
-pub(crate) fn copy_cells(
-    to: &mut [i64],
-    to_place: usize,
-    from: &[i64],
-    from_place: usize,
-    cells: usize,
-    width: usize,
-)
-    requires to_within { (to_place + cells) * width ≤ length to.old }
-    requires from_within { (from_place + cells) * width ≤ length from.now }
-    ensures copied { (k : ℕ) → k < cells
-        → nth_cell width to.new (to_place + k) ≡ nth_cell width from.now (from_place + k) }
-    ensures others { (k : ℕ) → (k < to_place) ⊎ (to_place + cells ≤ k)
-        → nth_cell width to.new k ≡ nth_cell width to.old k }
+/// Copies the numbers of this many cells from one place to another.
+fn copy_cells(to: &mut [i64], to_place: usize, from: &Plane, from_place: usize, cells: usize)
+    requires to_within { to_place + cells ≤ length to.old }
+    requires from_within { Reaches (from_place + cells) from.now }
+    ensures copied { (k : ℕ) → k < cells → number_at to.new (to_place + k) ≡ number_in from.now (from_place + k) }
+    ensures others { (k : ℕ) → (k < to_place) ⊎ (to_place + cells ≤ k) → number_at to.new k ≡ number_at to.old k }
 {
-    let start = to_place * width;
-    let from_start = from_place * width;
-    let count = cells * width;
-    to[start..start + count].copy_from_slice(&from[from_start..from_start + count]);
+    from.read(from_place, &mut to[to_place..to_place + cells]);
 }

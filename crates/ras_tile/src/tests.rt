@@ -1,9 +1,12 @@
 //! Cells worked out by hand, and that calls which need memory succeed.
-ghost use Rattle.std.specs.Prelude.{List, ℤ, IsTrue, IfOk};
+ghost use Rattle.std.specs.Prelude.{List, ℤ, IsTrue, IfOk, All};
+ghost use Rattle.ras_cells.specs.Atoms.{AreInRange};
+ghost use Rattle.ras_cells.specs.Stored.{atoms_of};
 ghost use Rattle.ras_domain.specs.Region.{IsIn};
 
 use crate::Tile;
-use ras_cells::{MAX_COMPONENTS, Numbers};
+use arrayvec::ArrayVec;
+use ras_cells::{Atom, CellType, MAX_COMPONENTS, Numbers};
 use ras_domain::{Interval, MAX_AXES, MAX_TILE_CELLS, Point, Region};
 use std::alloc::{AllocError, Global};
 use std::process::Abort;
@@ -243,6 +246,157 @@ fn cells_of_eight_components_are_kept(rt: HostRuntime) -> Result<(), Fail> {
     assert_eq!(rt;
         numbers_in(&rt, rt.alloc(), &copy)?.as_slice(),
         want.as_slice()
+    );
+    Ok(())
+}
+
+/// Whether each number is in the range of its atom.
+fn fit(atoms: &[Atom], numbers: &[i64]) -> bool
+    ensures { IsTrue result → AreInRange atoms.now numbers.now }
+{
+    if atoms.len() != numbers.len() {
+        return false;
+    }
+    for i in 0..atoms.len() {
+        if !atoms[i].contains(numbers[i]) {
+            return false;
+        }
+    }
+    true
+}
+
+/// Whether the numbers of each cell are in the ranges of the type.
+fn all_fit(tile: &Tile, of: &CellType) -> bool
+    ensures { IsTrue result → All (AreInRange (atoms_of of.now)) tile.now.cells }
+{
+    for place in 0..tile.region().volume() {
+        let p = tile.region().point_at(place);
+        if !tile.region().contains(&p) || !fit(of.atoms(), tile.get(&p).as_slice()) {
+            return false;
+        }
+    }
+    true
+}
+
+/// The tile packed as this type, once its numbers were found to be in range.
+fn packed(rt: &impl Abort, alloc: Global, tile: &Tile, of: &CellType) -> Result<Tile, Fail> {
+    assert!(rt; all_fit(tile, of));
+    Ok(tile.pack(alloc, of)?)
+}
+
+/// How the numbers of a component are lent, with those that are kept.
+fn shown(rt: &impl Abort, alloc: Global, tile: &Tile, component: usize) -> Result<String, Fail> {
+    assert!(rt; component < tile.width());
+    Ok(format!(in alloc; "{:?}", tile.plane(component))?)
+}
+
+fn composite(rt: &impl Abort, atoms: &[Atom]) -> CellType {
+    let mut components = ArrayVec::new();
+    assert!(rt; atoms.len() <= MAX_COMPONENTS);
+    for atom in atoms {
+        assert!(rt; !components.is_full());
+        components.push(*atom);
+    }
+    CellType::Composite(components)
+}
+
+#[test]
+fn a_tile_of_chars_packs_to_bytes(rt: HostRuntime) -> Result<(), Fail> {
+    let mut tile = filled(&rt, rt.alloc(), &[(0, 99)], &[7])?;
+    let char = CellType::Atom(Atom::Char);
+    let seven = packed(&rt, rt.alloc(), &tile, &char)?;
+    assert_eq!(rt; shown(&rt, rt.alloc(), &seven, 0)?.as_str(), "Uniform(7)");
+    assert_eq!(rt;
+        numbers_in(&rt, rt.alloc(), &seven)?.as_slice(),
+        [7; 100].as_slice()
+    );
+    for c in 0..100i64 {
+        write(&rt, &mut tile, &[c], &[c]);
+    }
+    let bytes = packed(&rt, rt.alloc(), &tile, &char)?;
+    let lent = shown(&rt, rt.alloc(), &bytes, 0)?;
+    assert!(rt; lent.as_str().starts_with("U8([0, 1, 2, 3,"));
+    assert!(rt; lent.as_str().ends_with("98, 99])"));
+    let numbers = numbers_in(&rt, rt.alloc(), &bytes)?;
+    assert_eq!(rt;
+        numbers.as_slice(),
+        numbers_in(&rt, rt.alloc(), &tile)?.as_slice()
+    );
+    assert_eq!(rt; numbers.last().copied(), Some(99));
+    Ok(())
+}
+
+#[test]
+fn each_atom_packs_at_both_ends_of_its_range(rt: HostRuntime) -> Result<(), Fail> {
+    let cases = [
+        (Atom::Bool, 0, 1, "U8([0, 1])"),
+        (Atom::Octet, -128, 127, "I8([-128, 127])"),
+        (Atom::Char, 0, 255, "U8([0, 255])"),
+        (Atom::Short, -32_768, 32_767, "I16([-32768, 32767])"),
+        (Atom::Ushort, 0, 65_535, "U16([0, 65535])"),
+        (
+            Atom::Long,
+            -2_147_483_648,
+            2_147_483_647,
+            "I32([-2147483648, 2147483647])",
+        ),
+        (Atom::Ulong, 0, 4_294_967_295, "U32([0, 4294967295])"),
+        (
+            Atom::Wide,
+            i64::MIN,
+            i64::MAX,
+            "Plain([-9223372036854775808, 9223372036854775807])",
+        ),
+    ];
+    for (atom, least, greatest, want) in cases {
+        let mut tile = filled(&rt, rt.alloc(), &[(-1, 0)], &[least])?;
+        write(&rt, &mut tile, &[0], &[greatest]);
+        let kept = packed(&rt, rt.alloc(), &tile, &CellType::Atom(atom))?;
+        assert_eq!(rt; shown(&rt, rt.alloc(), &kept, 0)?.as_str(), want);
+        assert_eq!(rt;
+            numbers_in(&rt, rt.alloc(), &kept)?.as_slice(),
+            [least, greatest].as_slice()
+        );
+    }
+    Ok(())
+}
+
+#[test]
+fn packed_tiles_are_copied_from(rt: HostRuntime) -> Result<(), Fail> {
+    let mut tile = filled(&rt, rt.alloc(), &[(0, 1), (0, 1)], &[-5, 300])?;
+    let of = composite(&rt, &[Atom::Octet, Atom::Ushort]);
+    let uniform = packed(&rt, rt.alloc(), &tile, &of)?;
+    write(&rt, &mut tile, &[1, 0], &[-5, 301]);
+    let kept = packed(&rt, rt.alloc(), &tile, &of)?;
+    assert_eq!(rt;
+        shown(&rt, rt.alloc(), &uniform, 1)?.as_str(),
+        "Uniform(300)"
+    );
+    assert_eq!(rt;
+        shown(&rt, rt.alloc(), &kept, 0)?.as_str(),
+        "I8([-5, -5, -5, -5])"
+    );
+    assert_eq!(rt;
+        shown(&rt, rt.alloc(), &kept, 1)?.as_str(),
+        "U16([300, 300, 301, 300])"
+    );
+    let mut open = kept.try_clone(rt.alloc())?;
+    assert_eq!(rt;
+        shown(&rt, rt.alloc(), &open, 1)?.as_str(),
+        "Plain([300, 300, 301, 300])"
+    );
+    copy(
+        &rt,
+        &mut open,
+        &uniform,
+        &region_of(rt.alloc(), &[(1, 1), (0, 1)])?,
+    );
+    let again = packed(&rt, rt.alloc(), &open, &of)?;
+    assert_eq!(rt; shown(&rt, rt.alloc(), &again, 0)?.as_str(), "Uniform(-5)");
+    let back = packed(&rt, rt.alloc(), &kept, &of)?;
+    assert_eq!(rt;
+        shown(&rt, rt.alloc(), &back, 1)?.as_str(),
+        "U16([300, 300, 301, 300])"
     );
     Ok(())
 }

@@ -1,40 +1,54 @@
-ghost use Rattle.std.specs.Prelude.{◌≡◌, ◌≢◌, ◌≤◌, List, ℤ, length, slice_set, Some, true, IsTrue, IfOk};
+ghost use Rattle.std.specs.Prelude.{◌≡◌, ◌≢◌, ◌≤◌, ◌<◌, ◌↔◌, List, ℤ, length, slice_set, slice_index_or, replicate, Some, true, IsTrue, IfOk, All};
+ghost use Rattle.ras_cells.specs.Atoms.{AreInRange};
+ghost use Rattle.ras_cells.specs.Runs.{IsRunOf};
+ghost use Rattle.ras_cells.specs.Stored.{atoms_of};
 ghost use Rattle.ras_domain.specs.Region.{IsIn, points_of, place_in_rows};
-ghost use Rattle.ras_tile.specs.Tile.{IsTile, tile_cell_at, filled_tile};
+ghost use Rattle.ras_tile.specs.Cells.{AreEqual, numbers_of};
+ghost use Rattle.ras_tile.specs.Lent.{IsUniform, IsPlain, IsPackedAs};
+ghost use Rattle.ras_tile.specs.Tile.{IsTile, tile_cell_at, filled_tile, packed_tile};
 
-use crate::rows::{copy_cells, copy_rows};
-use ras_cells::Numbers;
+use crate::plane::Plane;
+use crate::planes;
+use crate::rows::copy_planes;
+use arrayvec::ArrayVec;
+use ras_cells::{Atom, CellType, MAX_COMPONENTS, Numbers, Run};
 use ras_domain::{MAX_TILE_CELLS, Point, Region};
 use std::alloc::{AllocError, Global};
 use std::marker::Model;
 
+/// The atoms of a tile's components.
+type Atoms = ArrayVec<Atom, MAX_COMPONENTS>;
+
 /// A box of points with a list of stored numbers at each point, equally many at each. The numbers
-/// of all cells stand side by side, in the row-major order of the points: the last axis runs
-/// fastest.
+/// of each component stand side by side, in the row-major order of the points: the last axis runs
+/// fastest. A tile that was packed keeps them in as few bytes as their type asks for, and where all
+/// cells are equal it keeps one; it can't be written.
 #[derive(Debug, Drop)]
 pub struct Tile {
     region: Region,
-    width: usize,
-    numbers: Vec<i64>,
+    atoms: Atoms,
+    planes: Vec<Plane>,
     writable: bool,
 }
 
 impl Model for Tile {
     ghost use Rattle.std.specs.Prelude.{length};
     ghost use Rattle.ras_domain.specs.Region.{points_of};
-    ghost use Rattle.ras_tile.specs.Stored.{IsStored, cells_stored_in};
+    ghost use Rattle.ras_tile.specs.Planes.{cells_in};
+    ghost use Rattle.ras_tile.specs.Stored.{IsStored};
     ghost use Rattle.ras_tile.specs.Tile.{TileValue};
 
     ghost Value = { TileValue };
 
     ghost view = { λ t. record {
       region = t.region;
-      width = t.width;
-      cells = cells_stored_in (length (points_of t.region)) t.width t.numbers.items;
+      width = length t.atoms.items;
+      atoms = t.atoms.items;
+      cells = cells_in t.planes.items (length (points_of t.region));
       writable = t.writable;
     } };
 
-    ghost invariant = { λ t. IsStored t.region t.width t.numbers.items };
+    ghost invariant = { λ t. IsStored t.region t.atoms.items t.writable t.planes.items };
 }
 
 impl Tile {
@@ -48,15 +62,11 @@ impl Tile {
         // By what `axes` ensures, the box is a region.
         let _axes = region.axes();
         let cells = region.volume() as usize;
-        let width = n.len();
-        let mut numbers = Vec::with_capacity(alloc, cells * width)?;
-        for _ in 0..cells {
-            numbers.extend_from_slice(n.as_slice())?;
-        }
+        let planes = planes::filled(alloc, cells, n.as_slice())?;
         Ok(Tile {
             region,
-            width,
-            numbers,
+            atoms: wide(n.len()),
+            planes,
             writable: true,
         })
     }
@@ -66,12 +76,30 @@ impl Tile {
         ensures copy { IfOk result (λ copy. copy ≡ record self.now { writable = true }) }
         ensures tile { IfOk result IsTile }
     {
-        let numbers = Vec::from_slice(alloc, self.numbers.as_slice())?;
+        let cells = self.region.volume() as usize;
+        let planes = planes::widened(alloc, cells, self.planes.as_slice())?;
         Ok(Tile {
             region: copy_of(&self.region),
-            width: self.width,
-            numbers,
+            atoms: atoms_in(self.atoms.as_slice()),
+            planes,
             writable: true,
+        })
+    }
+
+    /// A tile with the same cells whose numbers take as few bytes as `of` asks for, and that keeps
+    /// one cell where all are equal. It isn't writable. The error is want of memory.
+    pub fn pack(&self, alloc: Global, of: &CellType) -> Result<Tile, AllocError>
+        requires { All (AreInRange (atoms_of of.now)) self.now.cells }
+        ensures packed { IfOk result (λ tile. tile ≡ packed_tile (atoms_of of.now) self.now) }
+        ensures tile { IfOk result IsTile }
+    {
+        let cells = self.region.volume() as usize;
+        let planes = planes::packed(alloc, cells, self.planes.as_slice(), of.atoms())?;
+        Ok(Tile {
+            region: copy_of(&self.region),
+            atoms: atoms_in(of.atoms()),
+            planes,
+            writable: false,
         })
     }
 
@@ -87,7 +115,7 @@ impl Tile {
     pub fn width(&self) -> usize
         ensures { result ≡ self.now.width }
     {
-        self.width
+        self.atoms.len()
     }
 
     /// The numbers at a point of the box.
@@ -95,8 +123,21 @@ impl Tile {
         requires within { IsIn p.now.items self.now.region }
         ensures { tile_cell_at self.now p.now.items ≡ Some result.items }
     {
-        let from = self.region.row_place(p) as usize * self.width;
-        Numbers::try_from(&self.numbers[from..from + self.width]).unwrap()
+        planes::read_cell(self.planes.as_slice(), self.region.row_place(p) as usize)
+    }
+
+    /// The numbers of one component in the row-major order of the points, lent as they are kept: in
+    /// 64 bits where the tile is writable, else as one number where all cells are equal, and in the
+    /// width of the component's atom where not.
+    pub fn plane(&self, component: usize) -> Run<'_>
+        requires component { component < self.now.width }
+        ensures numbers { IsRunOf (numbers_of component self.now.cells) result }
+        ensures writable { IsTrue self.now.writable → IsPlain result }
+        ensures uniform { ¬ IsTrue self.now.writable → IsUniform result ↔ AreEqual self.now.cells }
+        ensures packed { ¬ IsTrue self.now.writable → ¬ AreEqual self.now.cells
+            → IsPackedAs (slice_index_or self.now.atoms component Atom.Wide) result }
+    {
+        self.planes[component].lent()
     }
 
     /// Writes the numbers at a point of the box. `n` has as many numbers as each cell.
@@ -112,14 +153,7 @@ impl Tile {
         ensures tile { IsTile self.new }
     {
         let place = self.region.row_place(p) as usize;
-        copy_cells(
-            self.numbers.as_mut_slice(),
-            place,
-            n.as_slice(),
-            0,
-            1,
-            self.width,
-        );
+        planes::write_cell(self.planes.as_mut_slice(), place, n.as_slice());
     }
 
     /// Copies the cells of `source` at the points of `region` to this tile. Both boxes cover
@@ -136,13 +170,12 @@ impl Tile {
         ensures stays { self.new ≡ record self.old { cells = self.new.cells } }
         ensures tile { IsTile self.new }
     {
-        copy_rows(
-            self.numbers.as_mut_slice(),
+        copy_planes(
+            self.planes.as_mut_slice(),
             &self.region,
-            source.numbers.as_slice(),
+            source.planes.as_slice(),
             &source.region,
             region,
-            self.width,
         );
     }
 }
@@ -155,4 +188,24 @@ fn copy_of(region: &Region) -> Region
         Ok(copy) => copy,
         Err(_) => unreachable!(),
     }
+}
+
+/// These atoms.
+fn atoms_in(atoms: &[Atom]) -> Atoms
+    requires { length atoms.now ≤ MAX_COMPONENTS }
+    ensures { result.items ≡ atoms.now }
+{
+    Atoms::try_from(atoms).unwrap()
+}
+
+/// As many atoms of 64 bits.
+fn wide(width: usize) -> Atoms
+    requires { width ≤ MAX_COMPONENTS }
+    ensures { result.items ≡ replicate width Atom.Wide }
+{
+    let mut atoms = Atoms::new();
+    for _ in 0..width {
+        atoms.push(Atom::Wide);
+    }
+    atoms
 }

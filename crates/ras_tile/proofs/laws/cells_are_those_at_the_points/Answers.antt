@@ -1,4 +1,4 @@
-use Rattle.ras_tile.proofs.Cells.{cells-same}
+use Rattle.ras_tile.proofs.Tiles.{cells-same}
 use Rattle.ras_tile.proofs.laws.cells_are_those_at_the_points.Goals as goal
 
 pub returns : goal.returns

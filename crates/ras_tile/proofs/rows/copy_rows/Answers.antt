@@ -1,10 +1,11 @@
 use Rattle.std.proofs.Common.{◌≡◌, ◌+◌, length, option_map, ap, ◌∙◌, arith}
 use Rattle.std.specs.List.{refill}
 use Rattle.std.proofs.lemmas.List.{take_at}
-use Rattle.ras_domain.specs.Region.{IsIn, place_in_rows}
+use Rattle.ras_domain.specs.Region.{IsIn, points_of, place_in_rows}
 use Rattle.ras_tile.proofs.RowPlaces.{place-within}
+use Rattle.ras_tile.specs.Planes.{number_in}
 use Rattle.ras_tile.specs.Stored.{along}
-use Rattle.ras_tile.proofs.Cells.{IsStored-room}
+use Rattle.ras_tile.proofs.Cells.{Reaches-within}
 use Rattle.ras_tile.proofs.Copying.{IsCopying, done_of, IsCopying-first, IsCopying-within, IsCopying-more, IsCopying-copied, IsCopying-others, row_fits}
 use Rattle.ras_tile.proofs.rows.copy_rows.Goals as goal
 
@@ -44,9 +45,14 @@ copy_cells-requires-clause-to_within c =
     let inside : IsIn c.in-Some.p.items c.args.region.now = IsCopying-within (rw c.in-Some.is at c.loop-next.invariant) in
     let end : IsIn (along c.in-Some.p.items c.finish_row-steps.result) c.args.region.now =
     rw (c.finish_row-steps.ensures.moved, c.as_mut_slice.ensures.value, c.axes.ensures.axes) at c.finish_row-steps.ensures.within in
-    rw (c.row_place-to_place.ensures.before)
-    (IsStored-room c.args.to_box.now c.args.width c.loop-next.to _ (c.finish_row-steps.result + 1) (omega (arith, c.requires.to_whole, c.loop-next.auto.to))
-    (row_fits c.args.to_box.now c.args.region.now c.in-Some.p.items c.finish_row-steps.result c.requires.to_covers c.axes.ensures.region.some_axes inside end))
+    omega (
+      arith,
+      c.requires.to_whole,
+      c.loop-next.auto.to,
+      c.row_place-to_place.ensures.before,
+      row_fits c.args.to_box.now c.args.region.now c.in-Some.p.items c.finish_row-steps.result c.requires.to_covers
+          c.axes.ensures.region.some_axes inside end,
+    )
 
 pub copy_cells-requires-clause-from_within : goal.copy_cells-requires-clause-from_within
 copy_cells-requires-clause-from_within c =
@@ -54,12 +60,13 @@ copy_cells-requires-clause-from_within c =
     let end : IsIn (along c.in-Some.p.items c.finish_row-steps.result) c.args.region.now =
     rw (c.finish_row-steps.ensures.moved, c.as_mut_slice.ensures.value, c.axes.ensures.axes) at c.finish_row-steps.ensures.within in
     rw (c.row_place-from_place.ensures.before)
-    (IsStored-room c.args.from_box.now c.args.width c.args.from.now _ (c.finish_row-steps.result + 1) c.requires.from_whole
-    (row_fits c.args.from_box.now c.args.region.now c.in-Some.p.items c.finish_row-steps.result c.requires.from_covers c.axes.ensures.region.some_axes inside end))
+    (Reaches-within (length (points_of c.args.from_box.now)) _ c.args.from.now
+    (row_fits c.args.from_box.now c.args.region.now c.in-Some.p.items c.finish_row-steps.result c.requires.from_covers c.axes.ensures.region.some_axes inside end)
+    c.requires.from_whole)
 
 -- one more row
 more : (c : goal.After-next_point-next)
-    → IsCopying c.args.to_box.now c.args.from_box.now c.args.region.now c.args.width c.args.to.now c.args.from.now c.copy_cells.new.to (option_map (λ p. p.items) c.next_point-next.result)
+    → IsCopying c.args.to_box.now c.args.from_box.now c.args.region.now c.args.to.now (number_in c.args.from.now) c.copy_cells.new.to (option_map (λ p. p.items) c.next_point-next.result)
     × (done_of c.args.region.now (option_map (λ p. p.items) c.next_point-next.result) ≡ place_in_rows c.args.region.now c.in-Some.p.items + (c.finish_row-steps.result + 1))
 more c =
     let end : IsIn (along c.in-Some.p.items c.finish_row-steps.result) c.args.region.now =

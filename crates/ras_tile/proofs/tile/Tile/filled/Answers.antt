@@ -1,21 +1,20 @@
-use Rattle.std.proofs.Common.{◌≡◌, true, length, refl, ◌∙◌, ap, arith}
-use Rattle.ras_domain.specs.Region.{points_of}
-use Rattle.ras_tile.proofs.Cells.{IsStored-times, IsTile-stored, cells_of-times, times}
+use Rattle.std.proofs.Common.{true, length, replicate, ◌∙◌, ap, arith}
+use Rattle.std.proofs.lemmas.List.{length-replicate}
+use Rattle.ras_cells.specs.declared.atom.Atom.TheVariants.{Wide}
+use Rattle.ras_tile.proofs.Tiles.{IsStored-plain_planes, IsTile-stored, tile_of-filled}
 use Rattle.ras_tile.proofs.tile.Tile.filled.Goals as goal
-
--- the numbers of all cells
-numbers_are : (c : goal.After-loop) → c.loop.numbers.items ≡ times (length (points_of c.args.region)) c.args.n.now.items
-numbers_are c =
-    c.loop.invariant ∙ ap (λ n. times n c.args.n.now.items) (omega (arith, c.volume-cells.ensures))
 
 pub invariant_of-result : goal.invariant_of-result
 invariant_of-result c =
-    rw c.len-width.ensures.value
-    (IsStored-times c.args.region c.args.n.now.items c.loop.numbers.items c.axes-axes.ensures.region c.requires.few_cells (omega (arith, c.len-width.ensures.fits)) (numbers_are c))
+    IsStored-plain_planes c.args.region c.wide.result.items c.in_ok-planes.planes.items c.volume-cells.result (λ _. c.args.n.now.items) c.axes-axes.ensures.region c.requires.few_cells
+    (omega (arith, ap length c.wide.ensures, length-replicate c.len.result Wide, c.len.ensures.fits))
+    (omega (arith, ap length c.wide.ensures, length-replicate c.len.result Wide, c.len.ensures.value, c.in_ok-planes.ensures.long, ap length c.as_slice.ensures.value))
+    c.volume-cells.ensures (rw c.as_slice.ensures.value at c.in_ok-planes.ensures.planes)
 
 pub returns-clause-filled : goal.returns-clause-filled
 returns-clause-filled c =
-    rw (c.len-width.ensures.value, numbers_are c, cells_of-times (length (points_of c.args.region)) c.args.n.now.items) refl
+    tile_of-filled c.args.region c.args.n.now.items c.wide.result.items c.in_ok-planes.planes.items (c.wide.ensures ∙ ap (λ width. replicate width Wide) c.len.ensures.value)
+    (λ k below. c.in_ok-planes.ensures.planes.cells k (omega (arith, c.volume-cells.ensures)) ∙ c.as_slice.ensures.value)
 
 pub returns-clause-tile : goal.returns-clause-tile
-returns-clause-tile c = IsTile-stored c.args.region c.len-width.result c.loop.numbers.items true (invariant_of-result c)
+returns-clause-tile c = IsTile-stored c.args.region c.wide.result.items c.in_ok-planes.planes.items true (invariant_of-result c)

@@ -1,42 +1,34 @@
-use Rattle.std.proofs.Common.{◌≡◌, subst, Some, ◌+◌, ◌≤◌, length, sym, ap, arith}
+use Rattle.std.proofs.Common.{◌≡◌, subst, Some, length, sym, ap, arith}
 use Rattle.std.proofs.lemmas.List.{with_items_is}
 use Rattle.std.specs.Vec.{with_items}
 use Rattle.ras_domain.specs.Region.{IsIn, points_of}
 use Rattle.ras_tile.specs.Tile.{TileValue, IsTile, tile_cell_at}
-use Rattle.ras_tile.proofs.Cells.{IsTile-stored, IsStored-room, IsStored-same, tile_of-set, cell_at-set, cell_at-set_other}
-use Rattle.ras_tile.proofs.RowPlaces.{place-within}
+use Rattle.ras_tile.proofs.Tiles.{IsTile-stored, IsStored-written, tile_of-set, cell_at-set, cell_at-set_other}
 use Rattle.ras_tile.proofs.tile.Tile.set.Goals as goal
 
-pub copy_cells-requires-clause-to_within : goal.copy_cells-requires-clause-to_within
-copy_cells-requires-clause-to_within c =
-    let inside : IsIn c.args.p.now.items c.self.inside.region = rw (← c.self.view_is) at c.requires.within in
-    let up : c.row_place-place.result + 1 ≤ length (points_of c.self.inside.region) = omega
-    (arith, place-within c.self.inside.region c.args.p.now.items inside, c.row_place-place.ensures.before) in
-    omega (
-      arith,
-      IsStored-room c.self.inside.region c.self.inside.width c.self.inside.numbers.items c.row_place-place.result 1 c.self.invariant.whole up,
-      ap length
-          c.as_mut_slice.ensures.value,
-    )
+-- the planes after the write
+planes_are : (c : goal.After-self-1) → (with_items c.self.inside.planes c.write_cell.new.planes).items ≡ c.write_cell.new.planes
+planes_are c = with_items_is c.self.inside.planes c.write_cell.new.planes (omega (arith, c.as_mut_slice.ensures.len))
 
--- the numbers after the write
-numbers_are : (c : goal.After-self-1) → (with_items c.self.inside.numbers c.copy_cells.new.to).items ≡ c.copy_cells.new.to
-numbers_are c = with_items_is c.self.inside.numbers c.copy_cells.new.to (omega (arith, c.as_mut_slice.ensures.len))
+pub invariant_of-self : goal.invariant_of-self
+invariant_of-self c =
+    let writable = rw (← c.self.view_is) at c.requires.writable in
+    rw (planes_are c)
+    (IsStored-written c.write_cell.new.planes c.self.inside.writable writable c.self.invariant (omega (arith, ap length c.as_mut_slice.ensures.value)) c.write_cell.ensures.plain
+    (c.write_cell.ensures.whole (length (points_of c.self.inside.region)) (rw c.as_mut_slice.ensures.value c.self.invariant.whole)))
 
 pub returns-clause-written : goal.returns-clause-written
 returns-clause-written c =
     let inside : IsIn c.args.p.now.items c.self.inside.region = rw (← c.self.view_is) at c.requires.within in
-    let wide = rw (← c.self.view_is) at c.requires.width in
-    let copied = rw (c.as_slice.ensures.value, c.row_place-place.ensures.before) at c.copy_cells.ensures.copied in
-    let others = rw (c.as_mut_slice.ensures.value, c.row_place-place.ensures.before) at c.copy_cells.ensures.others in
-    rw (← c.self.view_is, numbers_are c)
-    (tile_of-set c.self.inside.region c.self.inside.width c.self.inside.numbers.items c.copy_cells.new.to c.args.p.now.items c.args.n.now.items c.self.inside.writable
-    inside wide copied others)
+    let written = rw (c.as_slice.ensures.value, c.row_place-place.ensures.before) at c.write_cell.ensures.written in
+    let others = rw (c.as_mut_slice.ensures.value, c.row_place-place.ensures.before) at c.write_cell.ensures.others in
+    rw (← c.self.view_is, planes_are c)
+    (tile_of-set c.self.inside.region c.self.inside.atoms.items c.self.inside.planes.items c.write_cell.new.planes c.args.p.now.items c.args.n.now.items c.self.inside.writable inside written others)
 
 -- the tile as it was
 was : (c : goal.After-self-1) → IsTile c.args.self.now
 was c =
-    rw (← c.self.view_is) (IsTile-stored c.self.inside.region c.self.inside.width c.self.inside.numbers.items c.self.inside.writable c.self.invariant)
+    rw (← c.self.view_is) (IsTile-stored c.self.inside.region c.self.inside.atoms.items c.self.inside.planes.items c.self.inside.writable c.self.invariant)
 
 pub returns-clause-cell : goal.returns-clause-cell
 returns-clause-cell c =
@@ -51,6 +43,4 @@ returns-clause-others c =
 
 pub returns-clause-tile : goal.returns-clause-tile
 returns-clause-tile c =
-    rw (numbers_are c)
-    (IsTile-stored c.self.inside.region c.self.inside.width c.copy_cells.new.to c.self.inside.writable
-    (IsStored-same c.copy_cells.new.to c.self.invariant (omega (arith, ap length c.as_mut_slice.ensures.value))))
+    IsTile-stored c.self.inside.region c.self.inside.atoms.items (with_items c.self.inside.planes c.write_cell.new.planes).items c.self.inside.writable (invariant_of-self c)
