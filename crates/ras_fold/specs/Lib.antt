@@ -1,0 +1,5 @@
+pub mod Closed
+pub mod Kept
+pub mod Outcomes
+pub mod Summary
+pub mod Sums
