@@ -1,5 +1,6 @@
 pub mod Boxes
 pub mod Copies
+pub mod Empty
 pub mod Lists
 pub mod Maps
 pub mod Ready

@@ -8,7 +8,7 @@ ghost use Rattle.ras_domain.specs.Region.{IsIn};
 ghost use Rattle.ras_index.specs.Index.{row_major, value_at, IsReady, places_in};
 
 use crate::room::{make_ready, missing};
-use crate::slot::{Slot, copy_of, find, is_filled_in, span};
+use crate::slot::{Slot, copy_of, empty, find, is_filled_in, span};
 use ras_domain::{Point, Region};
 use std::alloc::{AllocError, Global};
 use std::marker::Model;
@@ -87,12 +87,23 @@ impl<V> TileIndex<V> {
         ensures value { result ≡ value_at self.old.entries place.now.items }
         ensures entries { self.new.entries ≡ remove_entry (is_at (row_major place.now.items)) self.old.entries }
         ensures ready { (q : List ℤ) → IsReady self.old q → IsReady self.new q }
+        ensures was_ordered { IsStrictlySortedBy row_major (keys_of self.old.entries) }
         ensures ordered { IsStrictlySortedBy row_major (keys_of self.new.entries) }
     {
         match find(self.slots.as_slice(), place) {
             Ok(i) => self.slots[i].value.take(),
             Err(_) => None,
         }
+    }
+
+    /// Takes all values out. A place that had one is ready afterwards.
+    pub fn clear(&mut self)
+    where
+        V: Drop,
+        ensures entries { self.new.entries ≡ [] }
+        ensures ready { (q : List ℤ) → IsReady self.old q → IsReady self.new q }
+    {
+        empty(self.slots.as_mut_slice());
     }
 
     /// The places in a box that have a value, in row-major order.

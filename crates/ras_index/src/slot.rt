@@ -71,6 +71,16 @@ pub(crate) fn is_filled_in<V>(slot: &Slot<V>, places: &Region) -> bool
     slot.value.is_some() && places.contains(&slot.place)
 }
 
+/// Takes the value out of each slot.
+pub(crate) fn empty<V: Drop>(slots: &mut [Slot<V>])
+    ensures places { places_of slots.new ≡ places_of slots.old }
+    ensures entries { entries_of slots.new ≡ [] }
+{
+    for slot in slots.iter_mut() {
+        slot.value = None;
+    }
+}
+
 /// A copy. The error is want of memory.
 pub(crate) fn copy_of<V: Clone>(slot: &Slot<V>) -> Result<Slot<V>, AllocError>
     ensures { IfOk result (λ copy. IsCopyOf V.is_clone slot.now copy) }

@@ -65,3 +65,11 @@ returns-in-Err-clause-entries g c =
     let same = remove-absent row_major c.self.inside.slots.items c.args.place.now.items
     (subst (λ slots. AllByRecursion (λ q. is_at (row_major c.args.place.now.items) q ≡ false) (places_of slots)) c.as_slice.ensures.value absent) in
     subst (λ index. index.entries ≡ remove_entry (is_at (row_major c.args.place.now.items)) index.entries) c.self.view_is (sym same)
+
+pub returns-in-Ok-clause-was_ordered : goal.returns-in-Ok-clause-was_ordered
+returns-in-Ok-clause-was_ordered g c =
+    subst (λ index. IsStrictlySortedBy row_major (keys_of index.entries)) c.self.view_is (sorted-entries row_major c.self.inside.slots.items c.self.invariant)
+
+pub returns-in-Err-clause-was_ordered : goal.returns-in-Err-clause-was_ordered
+returns-in-Err-clause-was_ordered g c =
+    subst (λ index. IsStrictlySortedBy row_major (keys_of index.entries)) c.self.view_is (sorted-entries row_major c.self.inside.slots.items c.self.invariant)

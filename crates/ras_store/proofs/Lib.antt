@@ -1,0 +1,13 @@
+pub mod Arrays
+pub mod Ascending
+pub mod Collections
+pub mod Copies
+pub mod KeptDatabases
+pub mod KeptTiles
+pub mod Keys
+pub mod Listed
+pub mod Pieces
+pub mod Retained
+pub mod SameKept
+pub mod StoredTiles
+pub mod Tiles

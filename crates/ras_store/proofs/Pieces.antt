@@ -1,0 +1,240 @@
+-- What a piece holds when entries are added to it, and when it is put where nothing is kept.
+use Rattle.std.proofs.Common.{◌≡◌, ◌⊎◌, inl, inr, ℕ, suc, All, ℤ, ◌<◌, ◌+◌, Bool, true, false, cond, ◌&&◌, ◌||◌, List, [], ◌∷◌, ◌++◌, length, get_or, take, map, Contains, Option, Some, None, refl, sym, ap, subst, ◌∙◌, arith}
+use Rattle.std.specs.BTreeMap.{is_at}
+use Rattle.std.specs.Cmp.{nat_cmp_total}
+use Rattle.std.specs.Cmp.Lexicographic.{slice_cmp}
+use Rattle.std.specs.List.{list_any, slice_get}
+use Rattle.std.specs.Option.{option_map}
+use Rattle.std.specs.Ordering.{is_eq, nat_cmp}
+use Rattle.std.specs.declared.alloc.Global.{Global}
+use Rattle.std.specs.declared.sync.Arc.{Arc}
+use Rattle.std.proofs.lemmas.Bool.{false≢true}
+use Rattle.std.proofs.lemmas.Cmp.{tied_itself}
+use Rattle.std.proofs.lemmas.List.{map-append}
+use Rattle.std.proofs.lemmas.List.Folds.{list_any_at, list_any_more}
+use Rattle.law_lists.proofs.Elements.{Contains-here, Contains-there}
+use Rattle.std.proofs.lemmas.Map.Lookups.{exact_bytes, exact_unsigned}
+use Rattle.std.proofs.lemmas.Map.Views.{tells_apart}
+use Rattle.std.proofs.lemmas.Option.{get_or_from_slice_get}
+use Rattle.arrayvec.specs.ArrayVec.{ArrayVec}
+use Rattle.ras_domain.specs.declared.lock.LockName.{LockName}
+use Rattle.ras_domain.specs.declared.lock.LockName.TheVariants.{Collection, Domain, Tile}
+use Rattle.ras_domain.specs.declared.lock.Mode.{Mode}
+use Rattle.ras_domain.specs.declared.region.Interval.{Interval}
+use Rattle.ras_index.specs.Index.{row_major}
+use Rattle.ras_index.proofs.Slots.{row_major_exact, row_major_total}
+use Rattle.ras_tile.specs.Tile.{TileValue}
+use Rattle.ras_store.specs.declared.change.Change.{Change}
+use Rattle.ras_store.specs.declared.collection.CollectionInfo.{CollectionInfo}
+use Rattle.ras_store.specs.declared.piece.Piece.{Piece}
+use Rattle.ras_store.specs.Kept.{Kept, changed_by, changed_by_all, collection_kept, domain_kept, is_listed, kept_tile}
+use Rattle.ras_store.specs.Piece.{IsTaken, collection_entry, domain_entry, is_same_name, piece_kept, tile_entry}
+use Rattle.ras_store.proofs.Listed.{by_name_total, changed_by_all-push}
+use Rattle.spec_statements.specs.Locks.{Lock}
+use Rattle.spec_statements.specs.ReachLaw.{Names}
+
+-- ---- names
+
+both_true : (a b : Bool) → (a && b) ≡ true → (a ≡ true) × (b ≡ true)
+both_true true b is = (refl, is)
+both_true false b is = absurd (cc)
+
+all_three : (a b c : Bool) → a ≡ true → b ≡ true → c ≡ true → (a && (b && c)) ≡ true
+all_three a b c x y z = ap (λ t. t && (b && c)) x ∙ ap (λ t. t && c) y ∙ z
+
+same-itself : (name : LockName) → is_same_name name name ≡ true
+same-itself (Collection n) = ap is_eq (tied_itself by_name_total n)
+same-itself (Domain n oid) = ap (λ r. is_eq r && is_eq (nat_cmp oid oid)) (tied_itself by_name_total n) ∙ ap is_eq (tied_itself nat_cmp_total oid)
+same-itself (Tile n oid place) =
+    all_three (is_at (slice_cmp nat_cmp n) n) (is_at (nat_cmp oid) oid) (is_at (row_major place.items) place.items)
+    (ap is_eq (tied_itself by_name_total n)) (ap is_eq (tied_itself nat_cmp_total oid)) (ap is_eq (tied_itself row_major_total place.items))
+
+same_place : (at place : ArrayVec ℤ) → at.items ≡ place.items → at ≡ place
+same_place at place is = let point : List ℤ → ArrayVec ℤ = λ xs. record { items = xs } in ap point is
+
+pub same-exact : (name other : LockName) → is_same_name name other ≡ true → name ≡ other
+same-exact (Collection n) (Collection m) is = ap Collection (tells_apart exact_bytes n m is)
+same-exact (Domain n id) (Domain m oid) is =
+    let both = both_true (is_at (slice_cmp nat_cmp n) m) (is_at (nat_cmp id) oid) is in
+    ap (λ x. Domain x id) (tells_apart exact_bytes n m both.0) ∙ ap (Domain m) (tells_apart exact_unsigned id oid both.1)
+same-exact (Tile n id at) (Tile m oid place) is =
+    let first = both_true (is_at (slice_cmp nat_cmp n) m) (is_at (nat_cmp id) oid && is_at (row_major at.items) place.items) is in
+    let second = both_true (is_at (nat_cmp id) oid) (is_at (row_major at.items) place.items) first.1 in
+    ap (λ x. Tile x id at) (tells_apart exact_bytes n m first.0) ∙ ap (λ x. Tile m x at) (tells_apart exact_unsigned id oid second.0)
+    ∙ ap (Tile m oid) (same_place at place (tells_apart row_major_exact at.items place.items second.1))
+same-exact (Collection n) (Domain m oid) is = absurd (cc)
+same-exact (Collection n) (Tile m oid place) is = absurd (cc)
+same-exact (Domain n id) (Collection m) is = absurd (cc)
+same-exact (Domain n id) (Tile m oid place) is = absurd (cc)
+same-exact (Tile n id at) (Collection m) is = absurd (cc)
+same-exact (Tile n id at) (Domain m oid) is = absurd (cc)
+
+-- whether a list names it
+abbrev pub is_named : List Lock → LockName → Bool
+is_named list name = list_any (λ lock. is_same_name lock.0 name) list
+
+-- a test that one element passes
+passed : {X : Type 0} (test : X → Bool) (xs : List X) (x : X) → Contains xs x → test x ≡ true → list_any test xs ≡ true
+passed test xs x has is = list_any_at test xs has.0 x has.1 (ap test has.2 ∙ is)
+
+pub named_there : (list : List Lock) (name : LockName) → Names list name → is_named list name ≡ true
+named_there list name names = passed (λ lock. is_same_name lock.0 name) list (name, names.0) names.1 (same-itself name)
+
+pub named_not : (list : List Lock) (name : LockName) → ¬ Names list name → is_named list name ≡ false
+named_not [] name none = refl
+named_not (lock ∷ list) name none =
+    at (is_same_name lock.0 name) refl (named_not list name (λ names. none (names.0, Contains-there (name, names.0) lock list names.1)))
+  where
+    at : (b : Bool) → is_same_name lock.0 name ≡ b → is_named list name ≡ false → (b || is_named list name) ≡ false
+    at true is rest =
+        absurd (none (lock.1, subst (λ n. Contains (lock ∷ list) (n, lock.1)) (same-exact lock.0 name is) (Contains-here lock list)))
+    at false is rest = rest
+
+-- ---- entries
+
+-- one entry more
+pub entries-push : {E : Type 0} (f : E → Change) (xs : List E) (x : E) (name : LockName) (kept : Option Kept)
+    → changed_by_all (map f (xs ++ x ∷ [])) name kept ≡ changed_by (f x) name (changed_by_all (map f xs) name kept)
+entries-push f xs x name kept =
+    ap (λ changes. changed_by_all changes name kept) (map-append f xs (x ∷ [])) ∙ changed_by_all-push (map f xs) (f x) name kept
+
+joined : (a b : Bool) (x k : Option Kept) → cond a (cond b x k) k ≡ cond (a && b) x k
+joined true b x k = refl
+joined false b x k = refl
+
+-- nothing was taken
+pub taken-nothing : (kept : Option Kept) (same : Bool) (old : Option Kept) → kept ≡ None → IsTaken kept same old old
+taken-nothing kept same old none = inr (none, refl)
+
+module _ (old new : Piece) where
+  pub taken-collection : (n : List ℕ) (info : Option CollectionInfo) (kept : Option Kept)
+      → new.collections.items ≡ old.collections.items ++ (n, info) ∷ [] → new.domains.items ≡ old.domains.items → new.tiles.items ≡ old.tiles.items
+      → option_map collection_kept info ≡ kept → (other : LockName)
+      → IsTaken kept (is_same_name (Collection n) other) (piece_kept old other) (piece_kept new other)
+  taken-collection n info kept more domains tiles is (Collection m) =
+      inl
+      (ap (λ es. changed_by_all (map collection_entry es) (Collection m) None) more
+      ∙ entries-push collection_entry old.collections.items (n, info) (Collection m) None
+      ∙ ap (λ k. cond (is_at (slice_cmp nat_cmp n) m) k (piece_kept old (Collection m))) is)
+  taken-collection n info kept more domains tiles is (Domain m oid) = inl (ap (λ es. changed_by_all (map domain_entry es) (Domain m oid) None) domains)
+  taken-collection n info kept more domains tiles is (Tile m oid place) = inl (ap (λ es. changed_by_all (map tile_entry es) (Tile m oid place) None) tiles)
+
+  pub taken-domain : (n : List ℕ) (id : ℕ) (domain : List Interval) (kept : Option Kept)
+      → new.domains.items ≡ old.domains.items ++ (n, id, domain) ∷ [] → new.collections.items ≡ old.collections.items → new.tiles.items ≡ old.tiles.items
+      → Some (domain_kept domain) ≡ kept → (other : LockName)
+      → IsTaken kept (is_same_name (Domain n id) other) (piece_kept old other) (piece_kept new other)
+  taken-domain n id domain kept more collections tiles is (Domain m oid) =
+      inl
+      (ap (λ es. changed_by_all (map domain_entry es) (Domain m oid) None) more
+      ∙ entries-push domain_entry old.domains.items (n, id, domain) (Domain m oid) None
+      ∙ joined (is_at (slice_cmp nat_cmp n) m) (is_at (nat_cmp id) oid) (Some (domain_kept domain)) (piece_kept old (Domain m oid))
+      ∙ ap (λ k. cond (is_at (slice_cmp nat_cmp n) m && is_at (nat_cmp id) oid) k (piece_kept old (Domain m oid))) is)
+  taken-domain n id domain kept more collections tiles is (Collection m) = inl (ap (λ es. changed_by_all (map collection_entry es) (Collection m) None) collections)
+  taken-domain n id domain kept more collections tiles is (Tile m oid place) = inl (ap (λ es. changed_by_all (map tile_entry es) (Tile m oid place) None) tiles)
+
+  pub taken-tile : (n : List ℕ) (id : ℕ) (at : ArrayVec ℤ) (tile : Arc TileValue Global) (kept : Option Kept)
+      → new.tiles.items ≡ old.tiles.items ++ (n, id, at, tile) ∷ [] → new.collections.items ≡ old.collections.items → new.domains.items ≡ old.domains.items
+      → kept_tile (Some tile) ≡ kept → (other : LockName)
+      → IsTaken kept (is_same_name (Tile n id at) other) (piece_kept old other) (piece_kept new other)
+  taken-tile n id at tile kept more collections domains is (Tile m oid place) =
+      inl
+      (ap (λ es. changed_by_all (map tile_entry es) (Tile m oid place) None) more
+      ∙ entries-push tile_entry old.tiles.items (n, id, at, tile) (Tile m oid place) None
+      ∙ joined (is_at (slice_cmp nat_cmp n) m) (is_at (nat_cmp id) oid && is_at (row_major at.items) place.items) (kept_tile (Some tile)) (piece_kept old (Tile m oid place))
+      ∙ ap (λ k. cond (is_same_name (Tile n id at) (Tile m oid place)) k (piece_kept old (Tile m oid place))) is)
+  taken-tile n id at tile kept more collections domains is (Collection m) = inl (ap (λ es. changed_by_all (map collection_entry es) (Collection m) None) collections)
+  taken-tile n id at tile kept more collections domains is (Domain m oid) = inl (ap (λ es. changed_by_all (map domain_entry es) (Domain m oid) None) domains)
+
+-- ---- the names of a list one after another
+
+taken_more : (x b : Bool) (whole kept old new : Option Kept) → old ≡ cond x whole None → (b ≡ true → kept ≡ whole) → IsTaken kept b old new → new ≡ cond (x || b) whole None
+taken_more true true whole kept old new was same (inl is) = is ∙ same refl
+taken_more true true whole kept old new was same (inr both) = both.1 ∙ was
+taken_more true false whole kept old new was same (inl is) = is ∙ was
+taken_more true false whole kept old new was same (inr both) = both.1 ∙ was
+taken_more false true whole kept old new was same (inl is) = is ∙ same refl
+taken_more false true whole kept old new was same (inr both) = both.1 ∙ was ∙ sym (sym (same refl) ∙ both.0)
+taken_more false false whole kept old new was same (inl is) = is ∙ was
+taken_more false false whole kept old new was same (inr both) = both.1 ∙ was
+
+pub one-more-taken : (list : List Lock) (i : ℕ) (lock : LockName) (mode : Mode) (kept : LockName → Option Kept) (old new : LockName → Option Kept)
+    → i < length list → slice_get list i ≡ Some (lock, mode)
+    → ((name : LockName) → old name ≡ cond (is_named (take i list) name) (kept name) None)
+    → ((name : LockName) → IsTaken (kept lock) (is_same_name lock name) (old name) (new name))
+    → (name : LockName) → new name ≡ cond (is_named (take (i + 1) list) name) (kept name) None
+one-more-taken list i lock mode kept old new within at was taken name =
+    taken_more (is_named (take i list) name) (is_same_name lock name) (kept name) (kept lock) (old name) (new name) (was name)
+    (λ is. ap kept (same-exact lock name is)) (taken name)
+    ∙ ap (λ b. cond (is_named (take i list) name || b) (kept name) None)
+    (ap (λ (l : Lock). is_same_name l.0 name) (sym (get_or_from_slice_get list i (lock, mode) (lock, mode) at)))
+    ∙ ap (λ b. cond b (kept name) None) (sym (list_any_more (λ (l : Lock). is_same_name l.0 name) list i (lock, mode) within))
+
+-- ---- put where nothing is kept
+
+either_none : (a b : Bool) → cond a (cond b None None) None ≡ (let none : Option Kept = None in none)
+either_none true true = refl
+either_none true false = refl
+either_none false b = refl
+
+unchanged_at : (a : Bool) (k : Option Kept) → cond a k k ≡ k
+unchanged_at true k = refl
+unchanged_at false k = refl
+
+collections-domain : (es : List (List ℕ × Option CollectionInfo)) (m : List ℕ) (oid : ℕ) → changed_by_all (map collection_entry es) (Domain m oid) None ≡ None
+collections-domain [] m oid = refl
+collections-domain (e ∷ es) m oid =
+    ap (changed_by_all (map collection_entry es) (Domain m oid)) (either_none (is_at (slice_cmp nat_cmp e.0) m) (is_listed e.1 oid)) ∙ collections-domain es m oid
+
+collections-tile : (es : List (List ℕ × Option CollectionInfo)) (m : List ℕ) (oid : ℕ) (place : ArrayVec ℤ)
+    → changed_by_all (map collection_entry es) (Tile m oid place) None ≡ None
+collections-tile [] m oid place = refl
+collections-tile (e ∷ es) m oid place =
+    ap (changed_by_all (map collection_entry es) (Tile m oid place)) (either_none (is_at (slice_cmp nat_cmp e.0) m) (is_listed e.1 oid)) ∙ collections-tile es m oid place
+
+domains-collection : (es : List (List ℕ × ℕ × List Interval)) (m : List ℕ) (k : Option Kept) → changed_by_all (map domain_entry es) (Collection m) k ≡ k
+domains-collection [] m k = refl
+domains-collection (e ∷ es) m k =
+    ap (changed_by_all (map domain_entry es) (Collection m)) (unchanged_at (is_at (slice_cmp nat_cmp e.0) m) k) ∙ domains-collection es m k
+
+domains-tile : (es : List (List ℕ × ℕ × List Interval)) (m : List ℕ) (oid : ℕ) (place : ArrayVec ℤ) (k : Option Kept)
+    → changed_by_all (map domain_entry es) (Tile m oid place) k ≡ k
+domains-tile [] m oid place k = refl
+domains-tile (e ∷ es) m oid place k =
+    ap (changed_by_all (map domain_entry es) (Tile m oid place)) (unchanged_at (is_at (slice_cmp nat_cmp e.0) m) k) ∙ domains-tile es m oid place k
+
+tiles-collection : (es : List (List ℕ × ℕ × ArrayVec ℤ × Arc TileValue Global)) (m : List ℕ) (k : Option Kept)
+    → changed_by_all (map tile_entry es) (Collection m) k ≡ k
+tiles-collection [] m k = refl
+tiles-collection (e ∷ es) m k =
+    ap (changed_by_all (map tile_entry es) (Collection m)) (unchanged_at (is_at (slice_cmp nat_cmp e.0) m) k) ∙ tiles-collection es m k
+
+tiles-domain : (es : List (List ℕ × ℕ × ArrayVec ℤ × Arc TileValue Global)) (m : List ℕ) (oid : ℕ) (k : Option Kept)
+    → changed_by_all (map tile_entry es) (Domain m oid) k ≡ k
+tiles-domain [] m oid k = refl
+tiles-domain (e ∷ es) m oid k =
+    ap (changed_by_all (map tile_entry es) (Domain m oid)) (unchanged_at (is_at (slice_cmp nat_cmp e.0) m) k) ∙ tiles-domain es m oid k
+
+-- all entries of a piece, one kind after another
+pub put-all : (piece : Piece) (name : LockName)
+    → changed_by_all (map tile_entry piece.tiles.items) name
+    (changed_by_all (map domain_entry piece.domains.items) name (changed_by_all (map collection_entry piece.collections.items) name None))
+    ≡ piece_kept piece name
+put-all piece (Collection m) =
+    tiles-collection piece.tiles.items m (changed_by_all (map domain_entry piece.domains.items) (Collection m) (piece_kept piece (Collection m)))
+    ∙ domains-collection piece.domains.items m (piece_kept piece (Collection m))
+put-all piece (Domain m oid) =
+    tiles-domain piece.tiles.items m oid
+    (changed_by_all (map domain_entry piece.domains.items) (Domain m oid) (changed_by_all (map collection_entry piece.collections.items) (Domain m oid) None))
+    ∙ ap (changed_by_all (map domain_entry piece.domains.items) (Domain m oid)) (collections-domain piece.collections.items m oid)
+put-all piece (Tile m oid place) =
+    ap (changed_by_all (map tile_entry piece.tiles.items) (Tile m oid place))
+    (domains-tile piece.domains.items m oid place (changed_by_all (map collection_entry piece.collections.items) (Tile m oid place) None)
+    ∙ collections-tile piece.collections.items m oid place)
+
+-- ---- entries that are taken from a list
+
+pub first_of_all : {X : Type 0} (P : X → Type 0) (xs : List X) (x : X) (rest : List X) → xs ≡ x ∷ rest → All P xs → P x
+first_of_all P xs x rest is all = let whole : All P (x ∷ rest) = subst (All P) is all in whole 0 x (omega arith)
+
+pub rest_of_all : {X : Type 0} (P : X → Type 0) (xs : List X) (x : X) (rest : List X) → xs ≡ x ∷ rest → All P xs → All P rest
+rest_of_all P xs x rest is all = let whole : All P (x ∷ rest) = subst (All P) is all in λ k d within. whole (suc k) d (omega (arith, within))

@@ -1,0 +1,5 @@
+pub mod Databases
+pub mod Kept
+pub mod Piece
+pub mod Store
+pub mod View

@@ -1,0 +1,9 @@
+-- What a view shows.
+use Rattle.std.specs.Prelude.{Option}
+use Rattle.ras_domain.specs.declared.lock.LockName.{LockName}
+use Rattle.ras_store.specs.declared.view.View.{View}
+use Rattle.ras_store.specs.Kept.{Kept, kept_in}
+
+-- what is seen under the name of a lock, none where nothing is
+abbrev pub view_kept : View → LockName → Option Kept
+view_kept view name = kept_in view.contents name

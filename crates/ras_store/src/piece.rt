@@ -1,0 +1,258 @@
+//! What is taken of a store under a list of locks, and put into a view.
+ghost use Rattle.std.specs.Prelude.{◌≡◌, None, All, map, IfOk, OnOk};
+ghost use Rattle.ras_domain.specs.declared.lock.LockName.{LockName};
+ghost use Rattle.ras_store.specs.Kept.{HasRoomAt, HasRoomFor, changed_by_all, kept_in};
+ghost use Rattle.ras_store.specs.Piece.{IsTaken, collection_entry, domain_entry, is_same_name, piece_kept, tile_entry};
+ghost use Rattle.spec_statements.specs.ReachLaw.{Names};
+
+use crate::array::copy_of;
+use crate::change::Change;
+use crate::collection::CollectionInfo;
+use crate::contents::Contents;
+use ras_domain::{LockList, LockName, Name, Point, Region};
+use ras_tile::Tile;
+use std::alloc::{AllocError, Global};
+use std::sync::Arc;
+
+/// What a store has under the names of some locks: an entry for each collection that is named, also
+/// where there is none, and for each domain and tile that is there.
+#[derive(Drop)]
+pub struct Piece {
+    pub collections: Vec<(Name, Option<CollectionInfo>)>,
+    pub domains: Vec<(Name, u64, Region)>,
+    pub tiles: Vec<(Name, u64, Point, Arc<Tile>)>,
+}
+
+impl Piece {
+    /// The piece of no names. It allocates nothing.
+    pub fn new(alloc: Global) -> Piece
+        ensures { (name : LockName) → piece_kept result name ≡ None }
+    {
+        Piece {
+            collections: Vec::new(alloc),
+            domains: Vec::new(alloc),
+            tiles: Vec::new(alloc),
+        }
+    }
+}
+
+/// What is kept under the names of a list. Tiles are shared.
+pub(crate) fn piece_of(
+    alloc: Global,
+    contents: &Contents,
+    list: &LockList,
+) -> Result<Piece, AllocError>
+    ensures held { IfOk result (λ piece. (name : LockName) → Names list.now name → piece_kept piece name ≡ kept_in contents.now name) }
+    ensures others { IfOk result (λ piece. (name : LockName) → ¬ Names list.now name → piece_kept piece name ≡ None) }
+{
+    let mut piece = Piece::new(alloc);
+    for place in 0..list.len() {
+        let (lock, _mode) = list.get(place);
+        take(alloc, contents, lock, &mut piece)?;
+    }
+    Ok(piece)
+}
+
+/// Adds what is kept under one name.
+fn take(
+    alloc: Global,
+    contents: &Contents,
+    lock: &LockName,
+    piece: &mut Piece,
+) -> Result<(), AllocError>
+    ensures { OnOk result ((other : LockName) → IsTaken (kept_in contents.now lock.now) (is_same_name lock.now other)
+        (piece_kept piece.old other) (piece_kept piece.new other)) }
+{
+    match lock {
+        LockName::Collection(name) => take_collection(alloc, contents, name, piece),
+        LockName::Domain(name, oid) => take_domain(alloc, contents, name, *oid, piece),
+        LockName::Tile(name, oid, place) => take_tile(alloc, contents, name, *oid, place, piece),
+    }
+}
+
+/// Adds the information of a collection, or that there is no such collection.
+fn take_collection(
+    alloc: Global,
+    contents: &Contents,
+    name: &Name,
+    piece: &mut Piece,
+) -> Result<(), AllocError>
+    ensures { OnOk result ((other : LockName) → IsTaken (kept_in contents.now (LockName.Collection name.now))
+        (is_same_name (LockName.Collection name.now) other) (piece_kept piece.old other) (piece_kept piece.new other)) }
+{
+    let info = match contents.info(name) {
+        Some(info) => Some(info.try_clone(alloc)?),
+        None => None,
+    };
+    let name = name.try_clone(alloc)?;
+    piece.collections.push((name, info))?;
+    Ok(())
+}
+
+/// Adds the domain of an array, if there is one.
+fn take_domain(
+    alloc: Global,
+    contents: &Contents,
+    name: &Name,
+    oid: u64,
+    piece: &mut Piece,
+) -> Result<(), AllocError>
+    ensures { OnOk result ((other : LockName) → IsTaken (kept_in contents.now (LockName.Domain name.now oid))
+        (is_same_name (LockName.Domain name.now oid) other) (piece_kept piece.old other) (piece_kept piece.new other)) }
+{
+    match contents.domain(name, oid) {
+        Some(domain) => {
+            let domain = copy_of(domain);
+            let name = name.try_clone(alloc)?;
+            piece.domains.push((name, oid, domain))?;
+            Ok(())
+        }
+        None => Ok(()),
+    }
+}
+
+/// Adds the tile of an array at a place, if there is one.
+fn take_tile(
+    alloc: Global,
+    contents: &Contents,
+    name: &Name,
+    oid: u64,
+    place: &Point,
+    piece: &mut Piece,
+) -> Result<(), AllocError>
+    ensures { OnOk result ((other : LockName) → IsTaken (kept_in contents.now (LockName.Tile name.now oid place.now))
+        (is_same_name (LockName.Tile name.now oid place.now) other) (piece_kept piece.old other) (piece_kept piece.new other)) }
+{
+    match contents.tile(name, oid, place) {
+        Some(tile) => {
+            let tile = Arc::try_clone(tile)?;
+            let name = name.try_clone(alloc)?;
+            let place = copy_of_place(place)?;
+            piece.tiles.push((name, oid, place, tile))?;
+            Ok(())
+        }
+        None => Ok(()),
+    }
+}
+
+/// The same place.
+fn copy_of_place(place: &Point) -> Result<Point, AllocError>
+    ensures { IfOk result (λ copy. copy ≡ place.now) }
+{
+    place.clone()
+}
+
+/// Makes room for all entries of a piece.
+pub(crate) fn reserve_piece(
+    alloc: Global,
+    contents: &mut Contents,
+    piece: &Piece,
+) -> Result<(), AllocError>
+    ensures kept { (name : LockName) → kept_in contents.new name ≡ kept_in contents.old name }
+    ensures collections { OnOk result (All (λ entry. HasRoomFor contents.new (collection_entry entry)) piece.now.collections.items) }
+    ensures domains { OnOk result (All (λ entry. HasRoomFor contents.new (domain_entry entry)) piece.now.domains.items) }
+    ensures tiles { OnOk result (All (λ entry. HasRoomFor contents.new (tile_entry entry)) piece.now.tiles.items) }
+{
+    reserve_collections(alloc, contents, piece.collections.as_slice())?;
+    reserve_domains(alloc, contents, piece.domains.as_slice())?;
+    reserve_tiles(alloc, contents, piece.tiles.as_slice())
+}
+
+fn reserve_collections(
+    alloc: Global,
+    contents: &mut Contents,
+    entries: &[(Name, Option<CollectionInfo>)],
+) -> Result<(), AllocError>
+    ensures kept { (name : LockName) → kept_in contents.new name ≡ kept_in contents.old name }
+    ensures room { (other : LockName) → HasRoomAt contents.old other → HasRoomAt contents.new other }
+    ensures made { OnOk result (All (λ entry. HasRoomFor contents.new (collection_entry entry)) entries.now) }
+{
+    for entry in entries {
+        contents.reserve_collection(alloc, &entry.0)?;
+    }
+    Ok(())
+}
+
+fn reserve_domains(
+    alloc: Global,
+    contents: &mut Contents,
+    entries: &[(Name, u64, Region)],
+) -> Result<(), AllocError>
+    ensures kept { (name : LockName) → kept_in contents.new name ≡ kept_in contents.old name }
+    ensures room { (other : LockName) → HasRoomAt contents.old other → HasRoomAt contents.new other }
+    ensures made { OnOk result (All (λ entry. HasRoomFor contents.new (domain_entry entry)) entries.now) }
+{
+    for entry in entries {
+        contents.reserve_array(alloc, &entry.0, entry.1)?;
+    }
+    Ok(())
+}
+
+fn reserve_tiles(
+    alloc: Global,
+    contents: &mut Contents,
+    entries: &[(Name, u64, Point, Arc<Tile>)],
+) -> Result<(), AllocError>
+    ensures kept { (name : LockName) → kept_in contents.new name ≡ kept_in contents.old name }
+    ensures room { (other : LockName) → HasRoomAt contents.old other → HasRoomAt contents.new other }
+    ensures made { OnOk result (All (λ entry. HasRoomFor contents.new (tile_entry entry)) entries.now) }
+{
+    for entry in entries {
+        contents.reserve_tile(alloc, &entry.0, entry.1, &entry.2)?;
+    }
+    Ok(())
+}
+
+/// Puts in what a piece holds where nothing is kept. It takes no memory.
+pub(crate) fn put_piece(contents: &mut Contents, piece: Piece)
+    requires empty { (name : LockName) → kept_in contents.old name ≡ None }
+    requires collections { All (λ entry. HasRoomFor contents.old (collection_entry entry)) piece.collections.items }
+    requires domains { All (λ entry. HasRoomFor contents.old (domain_entry entry)) piece.domains.items }
+    requires tiles { All (λ entry. HasRoomFor contents.old (tile_entry entry)) piece.tiles.items }
+    ensures { (name : LockName) → kept_in contents.new name ≡ piece_kept piece name }
+{
+    let Piece {
+        collections,
+        domains,
+        tiles,
+    } = piece;
+    put_collections(contents, collections);
+    put_domains(contents, domains);
+    put_tiles(contents, tiles);
+}
+
+fn put_collections(contents: &mut Contents, entries: Vec<(Name, Option<CollectionInfo>)>)
+    requires { All (λ entry. HasRoomFor contents.old (collection_entry entry)) entries.items }
+    ensures changed { (name : LockName) → kept_in contents.new name
+        ≡ changed_by_all (map collection_entry entries.items) name (kept_in contents.old name) }
+    ensures room { (other : LockName) → HasRoomAt contents.old other → HasRoomAt contents.new other }
+{
+    for entry in entries {
+        let (name, info) = entry;
+        contents.apply(Change::Collection(name, info));
+    }
+}
+
+fn put_domains(contents: &mut Contents, entries: Vec<(Name, u64, Region)>)
+    requires { All (λ entry. HasRoomFor contents.old (domain_entry entry)) entries.items }
+    ensures changed { (name : LockName) → kept_in contents.new name
+        ≡ changed_by_all (map domain_entry entries.items) name (kept_in contents.old name) }
+    ensures room { (other : LockName) → HasRoomAt contents.old other → HasRoomAt contents.new other }
+{
+    for entry in entries {
+        let (name, oid, domain) = entry;
+        contents.apply(Change::Domain(name, oid, Some(domain)));
+    }
+}
+
+fn put_tiles(contents: &mut Contents, entries: Vec<(Name, u64, Point, Arc<Tile>)>)
+    requires { All (λ entry. HasRoomFor contents.old (tile_entry entry)) entries.items }
+    ensures changed { (name : LockName) → kept_in contents.new name
+        ≡ changed_by_all (map tile_entry entries.items) name (kept_in contents.old name) }
+    ensures room { (other : LockName) → HasRoomAt contents.old other → HasRoomAt contents.new other }
+{
+    for entry in entries {
+        let (name, oid, place, tile) = entry;
+        contents.apply(Change::Tile(name, oid, place, Some(tile)));
+    }
+}
