@@ -1,5 +1,13 @@
+pub mod Follows
 pub mod Fronts
+pub mod Loops
+pub mod Meanings
+pub mod Readings
 pub mod Said
+pub mod Spans
 pub mod Steps
+pub mod Times
+pub mod Told
+pub mod Took
 pub mod Values
 pub mod Walked

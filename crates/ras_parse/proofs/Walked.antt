@@ -1,6 +1,6 @@
 -- What is read so far, and what is left.
 use Rattle.std.specs.Prelude.{◌≡◌, ℕ, suc, ◌+◌, ◌-◌, ◌<◌, ◌≤◌, List, [], ◌∷◌, ◌++◌, length}
-use Rattle.std.proofs.Common.{sym, ap, ◌∙◌, append_assoc, arith}
+use Rattle.std.proofs.Common.{refl, sym, ap, ◌∙◌, append_assoc, arith}
 use Rattle.std.proofs.lemmas.List.{map-append}
 use Rattle.spec_grammar.specs.Weight.{weight_of, weight_of_kind}
 use Rattle.ras_syntax.specs.declared.limits.TheConstants.{MAX_WEIGHT}
@@ -40,7 +40,7 @@ pub too_heavy : (text : Text) (items news : List Token) (t : Token) (weight : �
     → lexed text ≡ before (tokens_in text items) (lexed_with text (spec.good (token_in text t)))
     → weight ≡ weight_of (tokens_in text items) → weight ≤ MAX_WEIGHT
     → MAX_WEIGHT < weight + weight_of_kind (token_in text t).kind
-    → IsFront text (tokens_in text news) Behind.TooHeavy
+    → IsFront text (tokens_in text news) (Behind.TooHeavy t.span.from)
 too_heavy text items news t weight e read weighed light heavy =
     let more = weighs_more text items news t e in (
       tokens_in text items,
@@ -50,6 +50,7 @@ too_heavy text items news t weight e read weighed light heavy =
       ap (λ (l : Lexed). l.tokens) read,
       omega arith,
       omega arith,
+      refl,
     )
 
 pub read_more : (text : Text) (items news : List Token) (t : Token) (rest : Lexed) → news ≡ items ++ t ∷ []

@@ -1,5 +1,12 @@
+pub mod CursorView
+pub mod Forms
+pub mod Inputs
+pub mod Nests
+pub mod Parts
 pub mod Reading
 pub mod Seen
 pub mod SessionWords
 pub mod Tables
+pub mod Told
 pub mod Walk
+pub mod Wholes

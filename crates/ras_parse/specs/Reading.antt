@@ -17,6 +17,6 @@ IsOwnFault text Memory = Unit {0}
 abbrev pub IsFront : Text → List Token → Behind → Type 0
 IsFront text ts behind.End = (lexed text ≡ record { tokens = ts; fault = None }) × (weight_of ts ≤ MAX_WEIGHT)
 IsFront text ts (behind.Fault f) = (lexed text ≡ record { tokens = ts; fault = Some f }) × (weight_of ts ≤ MAX_WEIGHT)
-IsFront text ts behind.TooHeavy =
+IsFront text ts (behind.TooHeavy place) =
     (before : List Token) × (t : Token) × (after : List Token) × (ts ≡ before ++ t ∷ []) × ((lexed text).tokens ≡ before ++ t ∷ after)
-    × (weight_of before ≤ MAX_WEIGHT) × (MAX_WEIGHT < weight_of ts)
+    × (weight_of before ≤ MAX_WEIGHT) × (MAX_WEIGHT < weight_of ts) × (place ≡ t.from)

@@ -2,17 +2,32 @@
 #![tactic(auto)]
 
 mod bytes;
+mod cursor;
+mod domains;
 mod fault;
+mod forms;
+mod grammar;
 pub mod laws;
 mod lexer;
+mod lists;
+mod operators;
+mod parts;
+mod primary;
 mod reading;
 mod session;
+mod statement;
+#[cfg(test)]
+mod statement_tests;
+mod stop;
 mod tables;
 #[cfg(test)]
 mod tests;
 mod token;
+mod verdict;
+mod whole;
 
 pub use fault::ParseFault;
 pub use reading::tokens;
 pub use session::session_word;
+pub use statement::parse_statement;
 pub use token::{Token, TokenKind};

@@ -40,8 +40,8 @@ pub enum Behind {
     End,
     /// A fault of a token's own.
     Fault(SyntaxFault),
-    /// Anything: with the last of the tokens they weigh too much.
-    TooHeavy,
+    /// Anything: with the last of the tokens, which stands at this place, they weigh too much.
+    TooHeavy { place: u32 },
 }
 
 /// The tokens at a text's front, up to and with the first with which they weigh too much.
@@ -65,9 +65,10 @@ pub fn front_of(alloc: Global, text: &[u8]) -> Result<Front, AllocError>
         tokens.push(token)?;
         weight += token.weight(text);
         if MAX_WEIGHT < weight {
+            let place = token.span.from;
             return Ok(Front {
                 tokens,
-                behind: Behind::TooHeavy,
+                behind: Behind::TooHeavy { place },
             });
         }
         next = next_token(text, token.span.to as usize);

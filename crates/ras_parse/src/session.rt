@@ -45,7 +45,7 @@ fn two_words(text: &[u8], first: &Token, second: &Token) -> Option<Word>
 }
 
 /// The number that may stand after `retry`: 1 to 1000, without a suffix.
-fn retries_of(kind: TokenKind) -> Option<u32>
+pub(crate) fn retries_of(kind: TokenKind) -> Option<u32>
     ensures { (bytes : Text) → result ≡ spec.retries_of (kind_seen bytes kind) }
 {
     match kind {

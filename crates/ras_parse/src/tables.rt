@@ -2,10 +2,12 @@
 ghost use Rattle.std.specs.Prelude.{◌≡◌, ◌≤◌, ◌<◌, length, map, find, option_map};
 ghost use Rattle.spec_grammar.specs.Tokens as spec;
 ghost use Rattle.spec_grammar.specs.Weight.{weight_of_kind};
-ghost use Rattle.ras_parse.specs.Tables.{words_in, suffix_entries};
+ghost use Rattle.law_grammar.specs.Readers.{meaning_of};
+ghost use Rattle.ras_parse.specs.Tables.{words_in, suffix_entries, word_entries, sign_entries};
 
 use crate::bytes::small;
-use ras_cells::Atom;
+use ras_cells::{Atom, Op2};
+use ras_syntax::{CellsFold, FoldOp};
 
 /// The reserved words, in small letters.
 pub const RESERVED_WORDS: [&[u8]; 66] = [
@@ -243,3 +245,149 @@ pub fn weight_of_sign(text: &[u8]) -> u32
         0
     }
 }
+
+/// What signs and words stand for. The words are in small letters.
+pub struct Table<A: 'static> {
+    pub signs: &'static [(&'static [u8], A)],
+    pub words: &'static [(&'static [u8], A)],
+}
+
+/// Whether a word, which is in small letters, is written by a text in any letters.
+fn names(word: &[u8], text: &[u8]) -> bool
+    ensures { result ≡ spec.is_same word.now (spec.in_small_letters text.now) }
+{
+    is_word(text, word)
+}
+
+/// What a word in any letters stands for.
+pub fn meaning_of_word<A: Copy>(mut words: &[(&[u8], A)], text: &[u8]) -> Option<A>
+    ensures { result ≡ meaning_of (word_entries words.entry.now) (spec.word (spec.in_small_letters text.now)) }
+{
+    while let [entry, others @ ..] = words {
+        if names(entry.0, text) {
+            return Some(entry.1);
+        }
+        words = others;
+    }
+    None
+}
+
+/// What a sign stands for.
+pub fn meaning_of_sign<A: Copy>(mut signs: &[(&[u8], A)], text: &[u8]) -> Option<A>
+    ensures { result ≡ meaning_of (sign_entries signs.entry.now) (spec.sign text.now) }
+{
+    while let [entry, others @ ..] = signs {
+        if entry.0 == text {
+            return Some(entry.1);
+        }
+        signs = others;
+    }
+    None
+}
+
+/// What `overlay` stands for.
+pub const OVERLAYS: Table<Op2> = Table {
+    signs: &[],
+    words: &[(b"overlay", Op2::Overlay)],
+};
+
+/// The signs between the operands of a sum.
+pub const SUMS: Table<Op2> = Table {
+    signs: &[(b"+", Op2::Add), (b"-", Op2::Sub)],
+    words: &[],
+};
+
+/// What a `condense` does with the values at its points.
+pub const FOLD_OPERATORS: Table<FoldOp> = Table {
+    signs: &[(b"+", FoldOp::Plus), (b"*", FoldOp::Times)],
+    words: &[
+        (b"min", FoldOp::Min),
+        (b"max", FoldOp::Max),
+        (b"and", FoldOp::And),
+        (b"or", FoldOp::Or),
+    ],
+};
+
+/// The words between the operands of a choice.
+pub const EITHERS: Table<Op2> = Table {
+    signs: &[],
+    words: &[(b"or", Op2::Or), (b"xor", Op2::Xor)],
+};
+
+/// The word between operands that both hold.
+pub const BOTHS: Table<Op2> = Table {
+    signs: &[],
+    words: &[(b"and", Op2::And)],
+};
+
+/// The signs between the two sides of a comparison.
+pub const COMPARISONS: Table<Op2> = Table {
+    signs: &[
+        (b"=", Op2::Eq),
+        (b"!=", Op2::Ne),
+        (b"<", Op2::Lt),
+        (b"<=", Op2::Le),
+        (b">", Op2::Gt),
+        (b">=", Op2::Ge),
+    ],
+    words: &[],
+};
+
+/// The sign between the factors of a product.
+pub const PRODUCTS: Table<Op2> = Table {
+    signs: &[(b"*", Op2::Mul)],
+    words: &[],
+};
+
+/// What is written as a call with two operands.
+pub const CALLS: Table<Op2> = Table {
+    signs: &[],
+    words: &[(b"div", Op2::Div), (b"mod", Op2::Mod), (b"bit", Op2::Bit)],
+};
+
+/// The words for the two truths.
+pub const TRUTHS: Table<bool> = Table {
+    signs: &[],
+    words: &[(b"true", true), (b"false", false)],
+};
+
+/// The folds over all cells.
+pub const CELLS_FOLDS: Table<CellsFold> = Table {
+    signs: &[],
+    words: &[
+        (b"add_cells", CellsFold::Add),
+        (b"min_cells", CellsFold::Min),
+        (b"max_cells", CellsFold::Max),
+        (b"count_cells", CellsFold::Count),
+        (b"some_cells", CellsFold::AnyTrue),
+        (b"all_cells", CellsFold::AllTrue),
+    ],
+};
+
+/// The atoms of one word.
+pub const ATOM_WORDS: Table<Atom> = Table {
+    signs: &[],
+    words: &[
+        (b"bool", Atom::Bool),
+        (b"boolean", Atom::Bool),
+        (b"octet", Atom::Octet),
+        (b"char", Atom::Char),
+        (b"short", Atom::Short),
+        (b"ushort", Atom::Ushort),
+        (b"long", Atom::Long),
+        (b"ulong", Atom::Ulong),
+        (b"wide", Atom::Wide),
+    ],
+};
+
+/// The words that may follow `unsigned`.
+pub const UNSIGNED_WORDS: Table<Atom> = Table {
+    signs: &[],
+    words: &[(b"short", Atom::Ushort), (b"long", Atom::Ulong)],
+};
+
+/// What follows a part: `[` is told from `.`.
+pub const PART_SIGNS: Table<bool> = Table {
+    signs: &[(b"[", true), (b".", false)],
+    words: &[],
+};

@@ -296,8 +296,8 @@ fn fronts_end_where_they_weigh_too_much(rt: HostRuntime) -> Result<(), Fail> {
     // Each `(` weighs two: with the 64th they weigh 128.
     let table: [(&[u8], usize, usize, Behind); 5] = [
         (b"(", 63, 63, Behind::End),
-        (b"(", MIB, 64, Behind::TooHeavy),
-        (b"NOT ", 128, 128, Behind::TooHeavy),
+        (b"(", MIB, 64, Behind::TooHeavy { place: 63 }),
+        (b"NOT ", 128, 128, Behind::TooHeavy { place: 508 }),
         (b"not ", 127, 127, Behind::End),
         (
             b"a, [1] / ",

@@ -1,6 +1,8 @@
-ghost use Rattle.std.specs.Prelude.{◌≡◌, ◌≤◌, ◌↔◌, length, slice_range, IsTrue};
+ghost use Rattle.std.specs.Prelude.{◌≡◌, ◌≤◌, ◌↔◌, length, slice_range, IsTrue, option_copied};
 
-use crate::tables::{is_word, weight_of_sign, weight_of_word};
+use crate::tables::{
+    ATOM_WORDS, Table, is_word, meaning_of_sign, meaning_of_word, weight_of_sign, weight_of_word,
+};
 use ras_cells::Atom;
 use ras_syntax::{Span, SyntaxFault};
 
@@ -14,6 +16,9 @@ pub struct Token {
 impl Token {
     ghost use Rattle.spec_grammar.specs.Tokens as spec;
     ghost use Rattle.spec_grammar.specs.Weight.{weight_of_kind};
+    ghost use Rattle.law_grammar.specs.Readers.{same_kind, meant};
+    ghost use Rattle.law_grammar.specs.Reading.{name_of, number_of, plain_number_of, begins_atom};
+    ghost use Rattle.ras_parse.specs.Tables.{table_of};
     ghost use Rattle.ras_parse.specs.Seen.{token_in, StandsIn, says, shows};
 
     /// The token's bytes.
@@ -29,6 +34,7 @@ impl Token {
         requires { StandsIn text.now self.now }
         ensures test { result ≡ says word.now (token_in text.now self.now).kind }
         ensures meaning { IsTrue result ↔ ((token_in text.now self.now).kind ≡ spec.word word.now) }
+        ensures same { result ≡ same_kind (spec.word word.now) (token_in text.now self.now).kind }
     {
         match self.kind {
             TokenKind::Reserved => is_word(self.bytes(text), word),
@@ -41,11 +47,66 @@ impl Token {
         requires { StandsIn text.now self.now }
         ensures test { result ≡ shows sign.now (token_in text.now self.now).kind }
         ensures meaning { IsTrue result ↔ ((token_in text.now self.now).kind ≡ spec.sign sign.now) }
+        ensures same { result ≡ same_kind (spec.sign sign.now) (token_in text.now self.now).kind }
     {
         match self.kind {
             TokenKind::Sign => self.bytes(text) == sign,
             _ => false,
         }
+    }
+
+    /// The bytes of a name.
+    pub(crate) fn name<'a>(&self, text: &'a [u8]) -> Option<&'a [u8]>
+        requires { StandsIn text.now self.now }
+        ensures { option_copied result ≡ name_of (token_in text.now self.now) }
+    {
+        match self.kind {
+            TokenKind::Name => Some(self.bytes(text)),
+            _ => None,
+        }
+    }
+
+    /// A number with the atom of its suffix.
+    pub(crate) fn number(&self) -> Option<(i64, Atom)>
+        ensures { (text : spec.Text) → result ≡ number_of (token_in text self.now) }
+    {
+        match self.kind {
+            TokenKind::Number { value, atom } => Some((value, atom)),
+            _ => None,
+        }
+    }
+
+    /// A number without a suffix.
+    pub(crate) fn plain_number(&self) -> Option<i64>
+        ensures { (text : spec.Text) → result ≡ plain_number_of (token_in text self.now) }
+    {
+        match self.kind {
+            TokenKind::Number {
+                value,
+                atom: Atom::Wide,
+            } => Some(value),
+            _ => None,
+        }
+    }
+
+    /// What it stands for in a table.
+    pub(crate) fn meaning<A: Copy>(&self, text: &[u8], table: &Table<A>) -> Option<A>
+        requires { StandsIn text.now self.now }
+        ensures { result ≡ meant (table_of table.now) (token_in text.now self.now) }
+    {
+        match self.kind {
+            TokenKind::Sign => meaning_of_sign(table.signs, self.bytes(text)),
+            TokenKind::Reserved => meaning_of_word(table.words, self.bytes(text)),
+            _ => None,
+        }
+    }
+
+    /// Whether it begins an atom.
+    pub(crate) fn begins_atom(&self, text: &[u8]) -> bool
+        requires { StandsIn text.now self.now }
+        ensures { result ≡ begins_atom (token_in text.now self.now) }
+    {
+        self.meaning(text, &ATOM_WORDS).is_some() || self.is_word(text, b"unsigned")
     }
 
     /// How much it weighs.

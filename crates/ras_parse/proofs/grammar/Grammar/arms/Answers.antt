@@ -1,0 +1,36 @@
+use Rattle.std.proofs.lemmas.Result.{err_from_is_err_and}
+use Rattle.spec_grammar.specs.Grammar.{w}
+use Rattle.law_grammar.specs.Reading.{arm_rest, reads}
+use Rattle.ras_parse.proofs.Follows.{accepted, refused, same-left, goes-by}
+use Rattle.ras_parse.proofs.Loops.{row-none, row-wrong, row-begins, list-goes, list-wrong, list-ends}
+use Rattle.ras_parse.proofs.grammar.Grammar.arms.Goals as goal
+
+pub returns-in_err-expect_word : goal.returns-in_err-expect_word
+returns-in_err-expect_word g c =
+    let p = err_from_is_err_and c.from_residual.result c.from_residual.ensures.1 in
+    rw (p.1, p.2) (record { gives = λ u. row-none (w "when") (arm_rest (reads c.args.self.now.depth)) _ _ c.in_err-expect_word.ensures.1 c.in_err-expect_word.ensures.0 })
+
+pub returns-in_err-first : goal.returns-in_err-first
+returns-in_err-first g c =
+    let p = err_from_is_err_and c.from_residual-in_err-first.result c.from_residual-in_err-first.ensures.1 in
+    rw (p.1, p.2) (record { gives = λ u. row-wrong (w "when") (arm_rest (reads c.args.self.now.depth)) _ _ _ _ c.in_ok-expect_word.ensures.1 (c.in_err-first.ensures.gives u) })
+
+pub loop-cursor-init : goal.loop-cursor-init
+loop-cursor-init g c =
+    rw c.in_ok-all.ensures (row-begins (w "when") (arm_rest (reads c.args.self.now.depth)) _ _ _ _ _ c.in_ok-expect_word.ensures.0 c.in_ok-expect_word.ensures.1 c.in_ok-first.ensures)
+
+pub returns-in_err-next : goal.returns-in_err-next
+returns-in_err-next g c =
+    let p = err_from_is_err_and c.from_residual-in_err-next.result c.from_residual-in_err-next.ensures.1 in
+    rw (p.1, p.2) (record { gives = list-wrong _ c.loop-cursor.invariant (accepted c.word.ensures c.loop-cursor-test.true) c.in_err-next.ensures })
+
+pub loop-cursor-preserved : goal.loop-cursor-preserved
+loop-cursor-preserved g c =
+    rw c.in_ok-push.ensures
+    (list-goes _ c.loop-cursor.invariant (goes-by c.word.ensures) (accepted c.word.ensures c.loop-cursor-test.true) c.in_ok-next.ensures)
+
+pub returns : goal.returns
+returns g c = record {
+  gives = list-ends c.loop-cursor.invariant (goes-by c.word.ensures) (same-left c.word.ensures c.loop-cursor-test.false)
+      (refused c.word.ensures c.loop-cursor-test.false);
+}

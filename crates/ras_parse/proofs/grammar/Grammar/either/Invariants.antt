@@ -1,0 +1,12 @@
+use Rattle.std.proofs.Common.{length}
+use Rattle.spec_grammar.specs.Grammar.{eithers}
+use Rattle.law_grammar.specs.Reading.{both_read, reads}
+use Rattle.ras_parse.specs.Inputs.{left}
+use Rattle.ras_parse.proofs.Loops.{InChain}
+use Rattle.ras_parse.proofs.grammar.Grammar.either.Given as goal
+
+abbrev pub invariant-loop-op : goal.invariant-loop-op
+invariant-loop-op g l = InChain eithers (both_read (reads l.self.depth)) l.fn.cursor l.e l.cursor
+
+abbrev pub decreases-loop-op : goal.decreases-loop-op
+decreases-loop-op g l = length (left l.cursor)
