@@ -6,7 +6,7 @@ use Rattle.std.proofs.Math.Nat.{mul-le-mul_right}
 use Rattle.std.proofs.lemmas.List.{length-map}
 use Rattle.std.proofs.lemmas.List.Elements.{All-from_recursion, recursion_from_All}
 use Rattle.ras_syntax.specs.declared.faults.SyntaxFault.{SyntaxFault}
-use Rattle.ras_syntax.specs.declared.limits.TheConstants.{MAX_RETRIES}
+use Rattle.ras_syntax.specs.declared.limits.TheConstants.{MAX_RETRIES, MAX_SESSIONS, MAX_STATEMENTS}
 use Rattle.ras_syntax.specs.declared.statement.Statement.{Statement}
 use Rattle.ras_syntax.specs.declared.statement.StatementForm.{StatementForm}
 use Rattle.ras_syntax.specs.declared.types.Script.{Script}
@@ -20,7 +20,6 @@ use Rattle.law_grammar.specs.VerdictOf.{verdict_of}
 use Rattle.law_grammar.proofs.EachVerdict.{verdict_of-is}
 use Rattle.law_lists.proofs.Each.{each_map}
 use Rattle.law_workloads.proofs.Programs.{of_text, room-of}
-use Rattle.spec_workloads.specs.declared.TheConstants.{MAX_SESSIONS, MAX_STATEMENTS}
 use Rattle.spec_workloads.specs.Outline.{IsOutline}
 use Rattle.spec_workloads.specs.Programs.{programs_of, statements_in_script}
 use Rattle.spec_workloads.specs.Setup.{WorkloadValue, workload_of}

@@ -1,6 +1,6 @@
 //! The laws. `specs/` of `spec_sessions` has the words that they use.
 ghost use Rattle.std.specs.Prelude.{◌≡◌, ℕ, suc, ◌+◌, ◌*◌, ◌≤◌, List, [], ◌∷◌, ◌++◌, All, length, Ok, Some, count_by};
-ghost use Rattle.ras_syntax.specs.declared.limits.TheConstants.{MAX_RETRIES};
+ghost use Rattle.ras_syntax.specs.declared.limits.TheConstants.{MAX_RETRIES, MAX_SESSIONS, MAX_STATEMENTS};
 ghost use Rattle.spec_grammar.specs.Tokens.{Text};
 ghost use Rattle.spec_histories.specs.History.{History};
 ghost use Rattle.spec_histories.specs.Legal.{IsLegal, is_begun};
@@ -9,7 +9,6 @@ ghost use Rattle.spec_sessions.specs.Begins.{HasFewTries, begins_in, read_script
 ghost use Rattle.spec_sessions.specs.Outcomes.{AreMadeSoFarFrom, session_events};
 ghost use Rattle.spec_sessions.specs.Walk.{ReadScript, Step, Walked, walk};
 ghost use Rattle.spec_views.specs.Sessions.{IsQuiet};
-ghost use Rattle.spec_workloads.specs.declared.TheConstants.{MAX_SESSIONS, MAX_STATEMENTS};
 ghost use Rattle.spec_workloads.specs.Programs.{programs_of};
 ghost use Rattle.spec_workloads.specs.Setup.{WorkloadValue, workload_of};
 

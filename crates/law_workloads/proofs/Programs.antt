@@ -30,10 +30,10 @@ use Rattle.law_grammar.proofs.EachVerdict.{verdict_of-is}
 use Rattle.law_lists.proofs.Each.{each_map, each_weaker, slice_get-All}
 use Rattle.law_views.proofs.Room.{has_room}
 use Rattle.spec_views.specs.Sessions.{AreShort}
-use Rattle.spec_workloads.specs.declared.TheConstants.{MAX_STATEMENTS}
+use Rattle.ras_syntax.specs.declared.limits.TheConstants.{MAX_STATEMENTS}
 use Rattle.spec_workloads.specs.Outline.{IsOutline, Outline, OutlineFault, outline_of}
 use Rattle.spec_workloads.specs.Programs.{programs_of, statement_if_read, statement_in_text, statements_in_script}
-use Rattle.spec_workloads.specs.Setup.{SetupFault, WorkloadValue, after_form, after_verdict, if_done, set_up, with_place, with_setup, workload_of, workload_of_outline, workload_over}
+use Rattle.spec_workloads.specs.Setup.{SetupFault, WorkloadValue, after_form, after_verdict, if_done, set_up, workload_with_place, with_setup, workload_of, workload_of_outline, workload_over}
 use Rattle.spec_workloads.proofs.Outlines.{bind_ok, ok_same, outlines-are}
 
 -- ---- the setup
@@ -96,11 +96,11 @@ pub record IsWorkloadOf (text : Text) (workload : WorkloadValue) : Type 0 where
   pub is_set_up : set_up outline.types 1 outline.setup [] ≡ Ok base
   pub same : workload_over outline base ≡ workload
 
-of_outline : (text : Text) (outline : Outline × ℕ) (found : WorkloadValue × ℕ) → outline_of text ≡ Ok outline → with_place outline.1 (workload_of_outline outline.0) ≡ Ok found
+of_outline : (text : Text) (outline : Outline × ℕ) (found : WorkloadValue × ℕ) → outline_of text ≡ Ok outline → workload_with_place outline.1 (workload_of_outline outline.0) ≡ Ok found
     → IsWorkloadOf text found.0
 of_outline text outline found read is = at (workload_of_outline outline.0) refl is
   where
-    at : (r : Result WorkloadValue (ℕ × SetupFault)) → workload_of_outline outline.0 ≡ r → with_place outline.1 r ≡ Ok found → IsWorkloadOf text found.0
+    at : (r : Result WorkloadValue (ℕ × SetupFault)) → workload_of_outline outline.0 ≡ r → workload_with_place outline.1 r ≡ Ok found → IsWorkloadOf text found.0
     at (Err fault) of is = absurd cc
     at (Ok workload) of is =
         let (base, one, rest) = bind_ok (set_up outline.0.types 1 outline.0.setup []) (λ base. Ok (workload_over outline.0 base)) workload of in

@@ -1,12 +1,11 @@
 //! The laws. `specs/` of `spec_workloads` has the words that they use.
 ghost use Rattle.std.specs.Prelude.{◌≡◌, ℕ, ◌+◌, ◌*◌, ◌≤◌, Ok, count_by};
-ghost use Rattle.ras_syntax.specs.declared.limits.TheConstants.{MAX_IDENTIFIER};
+ghost use Rattle.ras_syntax.specs.declared.limits.TheConstants.{MAX_IDENTIFIER, MAX_STATEMENTS};
 ghost use Rattle.spec_grammar.specs.Tokens.{Text};
 ghost use Rattle.spec_histories.specs.History.{History};
 ghost use Rattle.spec_histories.specs.Legal.{IsLegal, is_begun};
 ghost use Rattle.spec_histories.specs.Serializable.{ArePrograms, HasRoom};
 ghost use Rattle.spec_views.specs.Sessions.{AreShort};
-ghost use Rattle.spec_workloads.specs.declared.TheConstants.{MAX_STATEMENTS};
 ghost use Rattle.spec_workloads.specs.Programs.{programs_of};
 ghost use Rattle.spec_workloads.specs.Setup.{WorkloadValue, workload_of};
 

@@ -6,7 +6,7 @@ use std::alloc::{AllocError, AllocFailed, Global};
 use std::marker::Model;
 
 /// What a lock is on.
-#[derive(Debug, Drop)]
+#[derive(Debug, PartialEq, Eq, Hash, Drop)]
 pub enum LockName {
     /// Whether a collection exists, its set type and its members.
     Collection(Name),
@@ -104,7 +104,7 @@ impl LockList {
 
 impl LockName {
     /// A copy. The error is want of memory.
-    fn try_clone(&self, alloc: Global) -> Result<LockName, AllocError>
+    pub fn try_clone(&self, alloc: Global) -> Result<LockName, AllocError>
         ensures { IfOk result (λ copy. copy ≡ self.now) }
     {
         match self {

@@ -17,7 +17,7 @@ use Rattle.ras_cells.specs.Outcomes.{◌>>=◌}
 use Rattle.ras_syntax.specs.declared.expr.FoldOp.{FoldOp}
 use Rattle.ras_syntax.specs.declared.expr.FoldOp.TheVariants.{Plus, Times, Min, Max, And, Or}
 use Rattle.spec_expressions.specs.Fold.{folded_of, fold_of, numbers_in, number_before, wide_cell}
-use Rattle.ras_fold.specs.Kept.{kept_of, least_of_both, greatest_of_both}
+use Rattle.ras_fold.specs.Kept.{number_kept, least_of_both, greatest_of_both}
 use Rattle.ras_fold.specs.Outcomes.{numbers_among, faults_among}
 use Rattle.ras_fold.specs.Sums.{sum_of_all}
 use Rattle.ras_fold.specs.Summary.{Placed, closed_of, earlier_of, least_fault, fault_or_fold}
@@ -43,11 +43,11 @@ greatest_from : (a : ℤ) (zs : List ℤ) → fold (λ s z. greatest_of_both s (
 greatest_from a [] = refl
 greatest_from a (z ∷ zs) = greatest_from (int_max a z) zs
 
-least-fold : (zs : List ℤ) → fold (λ s z. least_of_both s (Some z)) None zs ≡ kept_of Min zs
+least-fold : (zs : List ℤ) → fold (λ s z. least_of_both s (Some z)) None zs ≡ number_kept Min zs
 least-fold [] = refl
 least-fold (z ∷ zs) = least_from z zs
 
-greatest-fold : (zs : List ℤ) → fold (λ s z. greatest_of_both s (Some z)) None zs ≡ kept_of Max zs
+greatest-fold : (zs : List ℤ) → fold (λ s z. greatest_of_both s (Some z)) None zs ≡ number_kept Max zs
 greatest-fold [] = refl
 greatest-fold (z ∷ zs) = greatest_from z zs
 
@@ -82,12 +82,12 @@ cell_of : Option ℤ → Result Cell CellFault
 cell_of None = Ok Null
 cell_of (Some z) = Ok (single z)
 
-least_cell : (zs : List ℤ) → folded_of Min zs ≡ cell_of (kept_of Min zs)
+least_cell : (zs : List ℤ) → folded_of Min zs ≡ cell_of (number_kept Min zs)
 unfolding cell_of
 least_cell [] = refl
 least_cell (z ∷ zs) = refl
 
-greatest_cell : (zs : List ℤ) → folded_of Max zs ≡ cell_of (kept_of Max zs)
+greatest_cell : (zs : List ℤ) → folded_of Max zs ≡ cell_of (number_kept Max zs)
 unfolding cell_of
 greatest_cell [] = refl
 greatest_cell (z ∷ zs) = refl

@@ -16,24 +16,24 @@ use Rattle.ras_syntax.specs.declared.expr.FoldOp.{FoldOp}
 use Rattle.ras_syntax.specs.declared.expr.FoldOp.TheVariants.{Plus, Times, Min, Max, And, Or}
 use Rattle.spec_expressions.specs.Fold.{folded_of, wide_cell}
 use Rattle.ras_fold.specs.Closed.{closed_from}
-use Rattle.ras_fold.specs.Kept.{IsKept, IsKeptOf, IsWithin, if_small, joined, kept_of, sum_of, product_of, large_times, least_of_both, greatest_of_both, both_true, one_true}
-use Rattle.ras_fold.proofs.Joining.{small_or_large, zero_or_not, kept_of-append}
+use Rattle.ras_fold.specs.Kept.{IsKeptNumber, IsKeptOf, IsWithin, if_small, joined, number_kept, sum_of, product_of, large_times, least_of_both, greatest_of_both, both_true, one_true}
+use Rattle.ras_fold.proofs.Joining.{small_or_large, zero_or_not, number_kept-append}
 
 -- ---- bounds
 
 in_range_within : (z : ℤ) → IsInRange Wide z → unsigned_abs z ≤ 2 ^ 63
 in_range_within z h = omega (arith, ints, h.0, h.1)
 
-IsKept-within : (op : FoldOp) (n : ℕ) (z : ℤ) → n ≤ 2 ^ 24 → IsKept op n z → unsigned_abs z ≤ 2 ^ 88
-IsKept-within Plus n z few h = omega (arith, h)
-IsKept-within Times n z few h = omega (arith, h)
-IsKept-within Min n z few h = omega (arith, in_range_within z h)
-IsKept-within Max n z few h = omega (arith, in_range_within z h)
-IsKept-within And n z few h = omega (arith, in_range_within z h)
-IsKept-within Or n z few h = omega (arith, in_range_within z h)
+IsKeptNumber-within : (op : FoldOp) (n : ℕ) (z : ℤ) → n ≤ 2 ^ 24 → IsKeptNumber op n z → unsigned_abs z ≤ 2 ^ 88
+IsKeptNumber-within Plus n z few h = omega (arith, h)
+IsKeptNumber-within Times n z few h = omega (arith, h)
+IsKeptNumber-within Min n z few h = omega (arith, in_range_within z h)
+IsKeptNumber-within Max n z few h = omega (arith, in_range_within z h)
+IsKeptNumber-within And n z few h = omega (arith, in_range_within z h)
+IsKeptNumber-within Or n z few h = omega (arith, in_range_within z h)
 
 pub IsKeptOf-within : (op : FoldOp) (n : ℕ) (kept : Option ℤ) → n ≤ 2 ^ 24 → IsKeptOf op n kept → IsWithin (2 ^ 88) kept
-IsKeptOf-within op n kept few h = λ z e. IsKept-within op n z few (h z e)
+IsKeptOf-within op n kept few h = λ z e. IsKeptNumber-within op n z few (h z e)
 
 some_is : {x z : ℤ} → Some x ≡ Some z → x ≡ z
 some_is e = cc
@@ -46,7 +46,7 @@ if_small-within p z e =
     (small_or_large p)
 
 -- what is kept of a product
-pub product-within-all : (zs : List ℤ) (z : ℤ) → kept_of Times zs ≡ Some z → unsigned_abs z ≤ 2 ^ 63
+pub product-within-all : (zs : List ℤ) (z : ℤ) → number_kept Times zs ≡ Some z → unsigned_abs z ≤ 2 ^ 63
 product-within-all zs z e = if_small-within (fold (λ x y. x *ℤ y) (pos 1) zs) z e
 
 large_times-within : (x z : ℤ) → large_times x ≡ Some z → unsigned_abs z ≤ 2 ^ 63
@@ -116,7 +116,7 @@ IsKeptOf-joined Or m n a b h k = one_true-ranged a b
 
 -- ---- of numbers of 64 bits
 
-IsKeptOf-none : (op : FoldOp) → IsKeptOf op 0 (kept_of op [])
+IsKeptOf-none : (op : FoldOp) → IsKeptOf op 0 (number_kept op [])
 IsKeptOf-none Plus = λ z e. let same = some_is e in rw (← same) (omega arith)
 IsKeptOf-none Times = λ z e. if_small-within (pos 1) z e
 IsKeptOf-none Min = λ z e. absurd cc
@@ -124,7 +124,7 @@ IsKeptOf-none Max = λ z e. absurd cc
 IsKeptOf-none And = λ z e. ranged e (IsInRange-truth true)
 IsKeptOf-none Or = λ z e. ranged e (IsInRange-truth false)
 
-pub IsKeptOf-one : (op : FoldOp) (x : ℤ) → IsInRange Wide x → IsKeptOf op 1 (kept_of op (x ∷ []))
+pub IsKeptOf-one : (op : FoldOp) (x : ℤ) → IsInRange Wide x → IsKeptOf op 1 (number_kept op (x ∷ []))
 IsKeptOf-one Plus x h = λ z e. let same = some_is e in rw (← same) (omega (arith, ints, h.0, h.1))
 IsKeptOf-one Times x h = λ z e. if_small-within (pos 1 *ℤ x) z e
 IsKeptOf-one Min x h = λ z e. ranged e h
@@ -132,10 +132,10 @@ IsKeptOf-one Max x h = λ z e. ranged e h
 IsKeptOf-one And x h = λ z e. ranged e (IsInRange-truth (list_all is_true (x ∷ [])))
 IsKeptOf-one Or x h = λ z e. ranged e (IsInRange-truth (list_any is_true (x ∷ [])))
 
-pub IsKeptOf-all : (op : FoldOp) (zs : List ℤ) → All (IsInRange Wide) zs → IsKeptOf op (length zs) (kept_of op zs)
+pub IsKeptOf-all : (op : FoldOp) (zs : List ℤ) → All (IsInRange Wide) zs → IsKeptOf op (length zs) (number_kept op zs)
 IsKeptOf-all op [] h = IsKeptOf-none op
 IsKeptOf-all op (z ∷ zs) h =
-    rw (kept_of-append op (z ∷ []) zs, ← one-add) (IsKeptOf-joined op 1 (length zs) _ _ (IsKeptOf-one op z (All-head (IsInRange Wide) z zs h)) (IsKeptOf-all op zs (All-tail (IsInRange Wide) z zs h)))
+    rw (number_kept-append op (z ∷ []) zs, ← one-add) (IsKeptOf-joined op 1 (length zs) _ _ (IsKeptOf-one op z (All-head (IsInRange Wide) z zs h)) (IsKeptOf-all op zs (All-tail (IsInRange Wide) z zs h)))
 
 -- ---- what comes of it
 
@@ -148,12 +148,12 @@ wide_cell-large z h = let outside : is_in_range Wide z ≡ false = grind (arith,
 product_closed : (p : ℤ) → closed_from Times (if_small p) ≡ wide_cell p
 product_closed p = ⊎_elim (λ s. rw s.1 refl) (λ l. rw l.1 (sym (wide_cell-large p l.0))) (small_or_large p)
 
-pub closed_from-kept_of : (op : FoldOp) (n : ℕ) (zs : List ℤ) → IsKeptOf op n (kept_of op zs) → closed_from op (kept_of op zs) ≡ folded_of op zs
-closed_from-kept_of Plus n zs h = refl
-closed_from-kept_of Times n zs h = product_closed (fold (λ x y. x *ℤ y) (pos 1) zs)
-closed_from-kept_of Min n [] h = refl
-closed_from-kept_of Min n (z ∷ zs) h = wide_cell-ranged (fold int_min z zs) (h _ refl)
-closed_from-kept_of Max n [] h = refl
-closed_from-kept_of Max n (z ∷ zs) h = wide_cell-ranged (fold int_max z zs) (h _ refl)
-closed_from-kept_of And n zs h = wide_cell-ranged (pos (from_bool (list_all is_true zs))) (h _ refl)
-closed_from-kept_of Or n zs h = wide_cell-ranged (pos (from_bool (list_any is_true zs))) (h _ refl)
+pub closed_from-number_kept : (op : FoldOp) (n : ℕ) (zs : List ℤ) → IsKeptOf op n (number_kept op zs) → closed_from op (number_kept op zs) ≡ folded_of op zs
+closed_from-number_kept Plus n zs h = refl
+closed_from-number_kept Times n zs h = product_closed (fold (λ x y. x *ℤ y) (pos 1) zs)
+closed_from-number_kept Min n [] h = refl
+closed_from-number_kept Min n (z ∷ zs) h = wide_cell-ranged (fold int_min z zs) (h _ refl)
+closed_from-number_kept Max n [] h = refl
+closed_from-number_kept Max n (z ∷ zs) h = wide_cell-ranged (fold int_max z zs) (h _ refl)
+closed_from-number_kept And n zs h = wide_cell-ranged (pos (from_bool (list_all is_true zs))) (h _ refl)
+closed_from-number_kept Or n zs h = wide_cell-ranged (pos (from_bool (list_any is_true zs))) (h _ refl)

@@ -15,7 +15,7 @@ use borrow.Author.Differences.{up, down, same_in, product_is}
 use Rattle.ras_cells.specs.Numbers.{is_true, is_zero}
 use Rattle.ras_syntax.specs.declared.expr.FoldOp.{FoldOp}
 use Rattle.ras_syntax.specs.declared.expr.FoldOp.TheVariants.{Plus, Times, Min, Max, And, Or}
-use Rattle.ras_fold.specs.Kept.{if_small, kept_of, joined, product_of, large_times, least_of_both, greatest_of_both}
+use Rattle.ras_fold.specs.Kept.{if_small, number_kept, joined, product_of, large_times, least_of_both, greatest_of_both}
 use Rattle.ras_fold.specs.Sums.{sum_of_all}
 
 -- ---- sums
@@ -115,12 +115,12 @@ max_from : (a z : ℤ) (zs : List ℤ) → fold int_max (int_max a z) zs ≡ int
 max_from a z [] = refl
 max_from a z (y ∷ ys) = ap (λ b. fold int_max b ys) (max_assoc a z y) ∙ max_from a (int_max z y) ys
 
-least-append : (zs ys : List ℤ) → kept_of Min (zs ++ ys) ≡ least_of_both (kept_of Min zs) (kept_of Min ys)
+least-append : (zs ys : List ℤ) → number_kept Min (zs ++ ys) ≡ least_of_both (number_kept Min zs) (number_kept Min ys)
 least-append [] ys = refl
 least-append (z ∷ zs) [] = ap (λ l. Some (fold int_min z l)) (append-nil zs)
 least-append (z ∷ zs) (y ∷ ys) = ap Some (fold-append int_min z zs (y ∷ ys) ∙ min_from (fold int_min z zs) y ys)
 
-greatest-append : (zs ys : List ℤ) → kept_of Max (zs ++ ys) ≡ greatest_of_both (kept_of Max zs) (kept_of Max ys)
+greatest-append : (zs ys : List ℤ) → number_kept Max (zs ++ ys) ≡ greatest_of_both (number_kept Max zs) (number_kept Max ys)
 greatest-append [] ys = refl
 greatest-append (z ∷ zs) [] = ap (λ l. Some (fold int_max z l)) (append-nil zs)
 greatest-append (z ∷ zs) (y ∷ ys) = ap Some (fold-append int_max z zs (y ∷ ys) ∙ max_from (fold int_max z zs) y ys)
@@ -133,15 +133,15 @@ is_true-from_bool false = refl
 
 -- ---- all of them
 
-pub kept_of-append : (op : FoldOp) (zs ys : List ℤ) → kept_of op (zs ++ ys) ≡ joined op (kept_of op zs) (kept_of op ys)
-kept_of-append Plus zs ys = ap Some (sum-append zs ys)
-kept_of-append Times zs ys =
+pub number_kept-append : (op : FoldOp) (zs ys : List ℤ) → number_kept op (zs ++ ys) ≡ joined op (number_kept op zs) (number_kept op ys)
+number_kept-append Plus zs ys = ap Some (sum-append zs ys)
+number_kept-append Times zs ys =
     ap if_small (product-append zs ys) ∙ if_small-product (fold (λ x y. x *ℤ y) (pos 1) zs) (fold (λ x y. x *ℤ y) (pos 1) ys)
-kept_of-append Min zs ys = least-append zs ys
-kept_of-append Max zs ys = greatest-append zs ys
-kept_of-append And zs ys =
+number_kept-append Min zs ys = least-append zs ys
+number_kept-append Max zs ys = greatest-append zs ys
+number_kept-append And zs ys =
     rw (is_true-from_bool (list_all is_true zs), is_true-from_bool (list_all is_true ys), list_all-append is_true zs ys) refl
-kept_of-append Or zs ys =
+number_kept-append Or zs ys =
     rw (is_true-from_bool (list_any is_true zs), is_true-from_bool (list_any is_true ys), list_any-append is_true zs ys) refl
 
 -- the sum of what stands for two lists

@@ -12,7 +12,7 @@ use Rattle.std.proofs.lemmas.List.Sums.{fold_push}
 use Rattle.ras_cells.specs.Numbers.{is_true}
 use Rattle.ras_syntax.specs.declared.expr.FoldOp.{FoldOp}
 use Rattle.ras_syntax.specs.declared.expr.FoldOp.TheVariants.{Plus, Times, Min, Max, And, Or}
-use Rattle.ras_fold.specs.Kept.{IsKeptOf, kept_of, if_small, product_of}
+use Rattle.ras_fold.specs.Kept.{IsKeptOf, number_kept, if_small, product_of}
 use Rattle.ras_fold.specs.Sums.{sum_of_all}
 use Rattle.ras_fold.proofs.Joining.{small_or_large, if_small-product, sum_from}
 
@@ -56,7 +56,7 @@ any-replicate : (z : ℤ) (n : ℕ) → list_any is_true (replicate (suc n) z) �
 any-replicate z zero = refl
 any-replicate z (suc n) = or_again (is_true z) (list_any is_true (replicate (suc n) z)) (any-replicate z n)
 
-once : (op : FoldOp) (z : ℤ) (n : ℕ) → op ≢ Plus → op ≢ Times → kept_of op (replicate (suc n) z) ≡ kept_of op (z ∷ [])
+once : (op : FoldOp) (z : ℤ) (n : ℕ) → op ≢ Plus → op ≢ Times → number_kept op (replicate (suc n) z) ≡ number_kept op (z ∷ [])
 once Plus z n sum product = absurd (sum refl)
 once Times z n sum product = absurd (product refl)
 once Min z n sum product = ap Some (min-replicate z n)
@@ -70,27 +70,27 @@ again op n kept sum h = h
 
 -- ---- for the function that keeps one number, many times
 
-pub kept_of-multiple : (number : ℤ) (zs : List ℤ) (n : ℕ) → All (λ z. z ≡ number) zs → length zs ≡ n → kept_of Plus zs ≡ Some (number *ℤ pos n)
-kept_of-multiple number zs n same count =
+pub number_kept-multiple : (number : ℤ) (zs : List ℤ) (n : ℕ) → All (λ z. z ≡ number) zs → length zs ≡ n → number_kept Plus zs ≡ Some (number *ℤ pos n)
+number_kept-multiple number zs n same count =
     ap Some (ap sum_of_all (all_same number zs same) ∙ sum-replicate number (length zs) ∙ ap (λ m. number *ℤ pos m) count)
 
-pub kept_of-power : (number : ℤ) (zs : List ℤ) (n : ℕ) → All (λ z. z ≡ number) zs → length zs ≡ n → kept_of Times zs ≡ kept_of Times (replicate n number)
-kept_of-power number zs n same count =
-    ap (kept_of Times) (all_same number zs same ∙ ap (λ m. replicate m number) count)
+pub number_kept-power : (number : ℤ) (zs : List ℤ) (n : ℕ) → All (λ z. z ≡ number) zs → length zs ≡ n → number_kept Times zs ≡ number_kept Times (replicate n number)
+number_kept-power number zs n same count =
+    ap (number_kept Times) (all_same number zs same ∙ ap (λ m. replicate m number) count)
 
-pub kept_of-once : (op : FoldOp) (number : ℤ) (zs : List ℤ) (n : ℕ) → op ≢ Plus → op ≢ Times → 0 < n
-    → All (λ z. z ≡ number) zs → length zs ≡ n → kept_of op zs ≡ kept_of op (number ∷ [])
-kept_of-once op number zs zero sum product some same count = absurd (omega arith)
-kept_of-once op number zs (suc n) sum product some same count =
-    ap (kept_of op) (all_same number zs same ∙ ap (λ m. replicate m number) count) ∙ once op number n sum product
+pub number_kept-once : (op : FoldOp) (number : ℤ) (zs : List ℤ) (n : ℕ) → op ≢ Plus → op ≢ Times → 0 < n
+    → All (λ z. z ≡ number) zs → length zs ≡ n → number_kept op zs ≡ number_kept op (number ∷ [])
+number_kept-once op number zs zero sum product some same count = absurd (omega arith)
+number_kept-once op number zs (suc n) sum product some same count =
+    ap (number_kept op) (all_same number zs same ∙ ap (λ m. replicate m number) count) ∙ once op number n sum product
 
 -- a product with one factor more
-pub product-push : (zs : List ℤ) (z : ℤ) → unsigned_abs z ≤ 2 ^ 63 → kept_of Times (zs ++ z ∷ []) ≡ product_of (kept_of Times zs) (Some z)
+pub product-push : (zs : List ℤ) (z : ℤ) → unsigned_abs z ≤ 2 ^ 63 → number_kept Times (zs ++ z ∷ []) ≡ product_of (number_kept Times zs) (Some z)
 product-push zs z small =
     let one : if_small z ≡ Some z = ⊎_elim (λ s. s.1) (λ l. absurd (omega arith)) (small_or_large z) in
     ap if_small (fold_push (λ x y. x *ℤ y) (pos 1) zs z)
     ∙ if_small-product (fold (λ x y. x *ℤ y) (pos 1) zs) z
-    ∙ ap (product_of (kept_of Times zs)) one
+    ∙ ap (product_of (number_kept Times zs)) one
 
 -- the sum of one number of 64 bits, many times
 pub multiple-within : (number : ℤ) (n : ℕ) (z : ℤ) → FitsSigned w64 number → Some (number *ℤ pos n) ≡ Some z → unsigned_abs z ≤ 2 ^ 63 * n
@@ -99,13 +99,13 @@ multiple-within number n z fits e =
     let size : unsigned_abs number ≤ 2 ^ 63 = omega (arith, ints, fits) in
     rw (← same) (omega (arith, unsigned_abs-mul number (pos n), mul-le-mul_right n size))
 
-pub product-replicate : (n : ℕ) (z : ℤ) → unsigned_abs z ≤ 2 ^ 63 → kept_of Times (replicate (n + 1) z) ≡ product_of (kept_of Times (replicate n z)) (Some z)
+pub product-replicate : (n : ℕ) (z : ℤ) → unsigned_abs z ≤ 2 ^ 63 → number_kept Times (replicate (n + 1) z) ≡ product_of (number_kept Times (replicate n z)) (Some z)
 product-replicate n z small =
-    ap (kept_of Times) (sym (replicate-append-replicate n 1 z)) ∙ product-push (replicate n z) z small
+    ap (number_kept Times) (sym (replicate-append-replicate n 1 z)) ∙ product-push (replicate n z) z small
 
 pub product-map-take : {X : Type 0} (f : X → ℤ) (xs : List X) (i : ℕ) (x : X) → i < length xs → x ≡ get_or xs i x → unsigned_abs (f x) ≤ 2 ^ 63
-    → kept_of Times (map f (take (i + 1) xs)) ≡ product_of (kept_of Times (map f (take i xs))) (Some (f x))
+    → number_kept Times (map f (take (i + 1) xs)) ≡ product_of (number_kept Times (map f (take i xs))) (Some (f x))
 product-map-take f xs i x below item small =
-    ap (λ ys. kept_of Times (map f ys)) (take_more xs i x below ∙ ap (λ y. take i xs ++ y ∷ []) (sym item))
-    ∙ ap (kept_of Times) (map-append f (take i xs) (x ∷ []))
+    ap (λ ys. number_kept Times (map f ys)) (take_more xs i x below ∙ ap (λ y. take i xs ++ y ∷ []) (sym item))
+    ∙ ap (number_kept Times) (map-append f (take i xs) (x ∷ []))
     ∙ product-push (map f (take i xs)) (f x) small

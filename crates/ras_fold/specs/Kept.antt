@@ -15,15 +15,15 @@ if_small z = if nat_le (unsigned_abs z) (2 ^ 63) then Some z else None
 
 -- The exact sum; the exact product, or none where its size exceeds 2^63, from where only a zero brings it back; the least or
 -- the greatest number, or none where there is no number; 1 or 0 for a truth value.
-abbrev pub kept_of : FoldOp → List ℤ → Option ℤ
-kept_of Plus zs = Some (fold (λ x y. x +ℤ y) (pos 0) zs)
-kept_of Times zs = if_small (fold (λ x y. x *ℤ y) (pos 1) zs)
-kept_of Min [] = None
-kept_of Min (z ∷ zs) = Some (fold int_min z zs)
-kept_of Max [] = None
-kept_of Max (z ∷ zs) = Some (fold int_max z zs)
-kept_of And zs = Some (pos (from_bool (list_all is_true zs)))
-kept_of Or zs = Some (pos (from_bool (list_any is_true zs)))
+abbrev pub number_kept : FoldOp → List ℤ → Option ℤ
+number_kept Plus zs = Some (fold (λ x y. x +ℤ y) (pos 0) zs)
+number_kept Times zs = if_small (fold (λ x y. x *ℤ y) (pos 1) zs)
+number_kept Min [] = None
+number_kept Min (z ∷ zs) = Some (fold int_min z zs)
+number_kept Max [] = None
+number_kept Max (z ∷ zs) = Some (fold int_max z zs)
+number_kept And zs = Some (pos (from_bool (list_all is_true zs)))
+number_kept Or zs = Some (pos (from_bool (list_any is_true zs)))
 
 -- ---- what is kept of some numbers and others, from what is kept of each
 
@@ -77,10 +77,10 @@ abbrev pub IsWithin : ℕ → Option ℤ → Type 0
 IsWithin most kept = ForSome kept (λ z. unsigned_abs z ≤ most)
 
 -- what may be kept of n numbers of 64 bits
-abbrev pub IsKept : FoldOp → ℕ → ℤ → Type 0
-IsKept Plus n z = unsigned_abs z ≤ 2 ^ 63 * n
-IsKept Times n z = unsigned_abs z ≤ 2 ^ 63
-IsKept op n z = IsInRange Wide z
+abbrev pub IsKeptNumber : FoldOp → ℕ → ℤ → Type 0
+IsKeptNumber Plus n z = unsigned_abs z ≤ 2 ^ 63 * n
+IsKeptNumber Times n z = unsigned_abs z ≤ 2 ^ 63
+IsKeptNumber op n z = IsInRange Wide z
 
 abbrev pub IsKeptOf : FoldOp → ℕ → Option ℤ → Type 0
-IsKeptOf op n kept = ForSome kept (IsKept op n)
+IsKeptOf op n kept = ForSome kept (IsKeptNumber op n)

@@ -4,7 +4,7 @@ use Rattle.ras_cells.specs.declared.cell.Cell.{Cell}
 use Rattle.ras_cells.specs.declared.cell.CellFault.{CellFault}
 use Rattle.ras_syntax.specs.declared.expr.FoldOp.{FoldOp}
 use Rattle.spec_expressions.specs.Fold.{folded_of}
-use Rattle.ras_fold.specs.Kept.{kept_of}
+use Rattle.ras_fold.specs.Kept.{number_kept}
 
 -- a fault and its place
 abbrev pub Placed : Type 0
@@ -30,7 +30,7 @@ least_fault (f ∷ faults) = earlier_of (Some f) (least_fault faults)
 
 -- the summary of these numbers and these faults, each in the order in which they were added
 abbrev pub summary_of : FoldOp → List ℤ → List Placed → SummaryValue
-summary_of op zs faults = record { op = op; count = length zs; kept = kept_of op zs; fault = least_fault faults }
+summary_of op zs faults = record { op = op; count = length zs; kept = number_kept op zs; fault = least_fault faults }
 
 -- the fault, or the exact fold of the numbers
 abbrev pub fault_or_fold : Option Placed → FoldOp → List ℤ → Result Cell CellFault

@@ -1,6 +1,6 @@
 //! What is kept of numbers that are folded.
 ghost use Rattle.std.specs.Prelude.{◌≡◌, ◌^◌, ◌*ℤ◌, [], ◌∷◌};
-ghost use Rattle.ras_fold.specs.Kept.{IsWithin, both_true as both_true_of, greatest_of_both, if_small, joined, kept_of, large_times as large_times_of, least_of_both, one_true as one_true_of, product_of, sum_of};
+ghost use Rattle.ras_fold.specs.Kept.{IsWithin, both_true as both_true_of, greatest_of_both, if_small, joined, number_kept, large_times as large_times_of, least_of_both, one_true as one_true_of, product_of, sum_of};
 ghost use Rattle.spec_expressions.specs.Fold.{wide_cell as wide_cell_of};
 ghost use Rattle.ras_fold.specs.Closed.{closed_from};
 
@@ -12,7 +12,7 @@ const LARGEST: u128 = 9_223_372_036_854_775_808;
 
 /// Of no number.
 pub(crate) fn kept_of_none(op: FoldOp) -> Option<i128>
-    ensures { result ≡ kept_of op [] }
+    ensures { result ≡ number_kept op [] }
 {
     match op {
         FoldOp::Plus | FoldOp::Or => Some(0),
@@ -23,7 +23,7 @@ pub(crate) fn kept_of_none(op: FoldOp) -> Option<i128>
 
 /// Of one number.
 pub(crate) fn kept_of_one(op: FoldOp, number: i64) -> Option<i128>
-    ensures { result ≡ kept_of op (number ∷ []) }
+    ensures { result ≡ number_kept op (number ∷ []) }
 {
     match op {
         FoldOp::Plus | FoldOp::Times | FoldOp::Min | FoldOp::Max => Some(i128::from(number)),

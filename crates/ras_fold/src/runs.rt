@@ -3,8 +3,8 @@ ghost use Rattle.std.specs.Prelude.{◌≡◌, ◌≤◌, ◌^◌, ◌*ℤ◌, L
 ghost use Rattle.std.specs.List.{list_all, list_any};
 ghost use Rattle.ras_cells.specs.Numbers.{is_true};
 ghost use Rattle.ras_cells.specs.Runs.{IsRunOf};
-ghost use Rattle.ras_kernel.specs.Runs.{HasLength};
-ghost use Rattle.ras_fold.specs.Kept.{IsKeptOf, kept_of};
+ghost use Rattle.ras_cells.specs.Runs.{HasLength};
+ghost use Rattle.ras_fold.specs.Kept.{IsKeptOf, number_kept};
 
 use crate::kept::{kept_of_none, kept_of_one, product};
 use crate::number::Number;
@@ -17,7 +17,7 @@ pub(crate) fn kept_of_run(op: FoldOp, run: &Run<'_>, times: u64) -> Option<i128>
     requires length { HasLength run.now times }
     requires few { times ≤ 2 ^ 24 }
     ensures kept { (numbers : List ℤ) → IsRunOf numbers run.now → length numbers ≡ times
-        → result ≡ kept_of op numbers }
+        → result ≡ number_kept op numbers }
     ensures bounds { IsKeptOf op times result }
 {
     match run {
@@ -36,7 +36,7 @@ pub(crate) fn kept_of_run(op: FoldOp, run: &Run<'_>, times: u64) -> Option<i128>
 fn kept_of_many(op: FoldOp, number: i64, times: u64) -> Option<i128>
     requires { times ≤ 2 ^ 24 }
     ensures kept { (numbers : List ℤ) → All (λ n. n ≡ number) numbers → length numbers ≡ times
-        → result ≡ kept_of op numbers }
+        → result ≡ number_kept op numbers }
     ensures bounds { IsKeptOf op times result }
 {
     if times == 0 {
@@ -59,7 +59,7 @@ fn multiple(number: i64, times: u64) -> i128
 
 /// The product of one number, so many times.
 fn power(number: i64, times: u64) -> Option<i128>
-    ensures { result ≡ kept_of FoldOp.Times (replicate times number) }
+    ensures { result ≡ number_kept FoldOp.Times (replicate times number) }
 {
     let mut kept = Some(1);
     'factors: for _ in 0..times {
@@ -71,7 +71,7 @@ fn power(number: i64, times: u64) -> Option<i128>
 /// Of each of these numbers.
 fn kept_of_each<N: Number>(op: FoldOp, numbers: &[N]) -> Option<i128>
     requires { length numbers.now ≤ 2 ^ 24 }
-    ensures kept { result ≡ kept_of op (map N.number numbers.now) }
+    ensures kept { result ≡ number_kept op (map N.number numbers.now) }
     ensures bounds { IsKeptOf op (length numbers.now) result }
 {
     match op {
@@ -86,7 +86,7 @@ fn kept_of_each<N: Number>(op: FoldOp, numbers: &[N]) -> Option<i128>
 
 /// Of a product.
 fn product_of_each<N: Number>(numbers: &[N]) -> Option<i128>
-    ensures { result ≡ kept_of FoldOp.Times (map N.number numbers.now) }
+    ensures { result ≡ number_kept FoldOp.Times (map N.number numbers.now) }
 {
     let mut kept = Some(1);
     for number in numbers {
@@ -97,7 +97,7 @@ fn product_of_each<N: Number>(numbers: &[N]) -> Option<i128>
 
 /// The least number.
 fn least<N: Number>(numbers: &[N]) -> Option<i64>
-    ensures { result ≡ kept_of FoldOp.Min (map N.number numbers.now) }
+    ensures { result ≡ number_kept FoldOp.Min (map N.number numbers.now) }
 {
     let [first, others @ ..] = numbers else {
         return None;
@@ -111,7 +111,7 @@ fn least<N: Number>(numbers: &[N]) -> Option<i64>
 
 /// The greatest number.
 fn greatest<N: Number>(numbers: &[N]) -> Option<i64>
-    ensures { result ≡ kept_of FoldOp.Max (map N.number numbers.now) }
+    ensures { result ≡ number_kept FoldOp.Max (map N.number numbers.now) }
 {
     let [first, others @ ..] = numbers else {
         return None;

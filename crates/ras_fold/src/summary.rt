@@ -1,6 +1,6 @@
 ghost use Rattle.std.specs.Prelude.{◌≡◌, ◌+◌, ◌≤◌, [], List, ℤ, length, option_to_list};
 ghost use Rattle.ras_cells.specs.Runs.{IsRunOf};
-ghost use Rattle.ras_kernel.specs.Runs.{HasLength};
+ghost use Rattle.ras_cells.specs.Runs.{HasLength};
 ghost use Rattle.ras_fold.specs.Summary.{AddsFault, AddsNumbers, IsClosed, IsMerged, earlier_of, summary_of};
 
 use crate::MAX_NUMBERS;

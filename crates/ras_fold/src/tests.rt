@@ -1,6 +1,6 @@
 //! Folds worked out by hand.
 ghost use Rattle.std.specs.Prelude.{◌≡◌, ◌+◌, ◌≤◌, length};
-ghost use Rattle.ras_kernel.specs.Runs.{HasLength};
+ghost use Rattle.ras_cells.specs.Runs.{HasLength};
 
 use crate::Summary;
 use ras_cells::{Cell, CellFault, Numbers, Run};

@@ -6,11 +6,11 @@ use Rattle.ras_cells.specs.declared.cell.CellFault.{CellFault}
 use Rattle.ras_cells.specs.Cells.{single}
 use Rattle.ras_cells.specs.Numbers.{is_zero}
 use Rattle.ras_cells.specs.Outcomes.{◌>>=◌}
-use Rattle.ras_kernel.specs.Runs.{is_null, number_in}
+use Rattle.ras_kernel.specs.Runs.{is_null, run_number}
 
 -- none of these outcomes of a block is a fault, and the numbers are theirs
 abbrev pub AreOutcomes : (ℕ → Result ℤ CellFault) → ℕ → ℕ → List ℤ → Type 0
-AreOutcomes outcomes from to numbers = (i : ℕ) → from ≤ i → i < to → outcomes i ≡ Ok (number_in numbers i)
+AreOutcomes outcomes from to numbers = (i : ℕ) → from ≤ i → i < to → outcomes i ≡ Ok (run_number numbers i)
 
 -- the cell of a number's outcome; a null hides a fault
 abbrev pub unless_null : Bool → Result ℤ CellFault → Result Cell CellFault
@@ -21,4 +21,4 @@ unless_null false outcome = do
 
 -- an overlay takes its first cell where the second is null or 0
 abbrev pub gives_way : List ℤ → List Bool → ℕ → Bool
-gives_way numbers nulls i = is_null nulls i || is_zero (number_in numbers i)
+gives_way numbers nulls i = is_null nulls i || is_zero (run_number numbers i)

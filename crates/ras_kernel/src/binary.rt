@@ -3,7 +3,7 @@ ghost use Rattle.std.specs.Prelude.{◌≡◌, ◌≢◌, ◌<◌, ◌≤◌, �
 ghost use Rattle.ras_cells.specs.Cells.{applied2};
 ghost use Rattle.ras_cells.specs.Numbers.{of_numbers};
 ghost use Rattle.ras_kernel.specs.Numbers.{AreOutcomes, unless_null};
-ghost use Rattle.ras_kernel.specs.Runs.{AreFlagsOf, HoldsBelow, IsRun, cell_in, is_null, number_in};
+ghost use Rattle.ras_kernel.specs.Runs.{AreFlagsOf, HoldsBelow, IsRun, run_cell, is_null, run_number};
 
 use crate::blocks::end_of_block;
 use crate::nulls::{is_null_at, join};
@@ -31,7 +31,7 @@ pub fn run2(
     requires b { length b.now ≡ length out.old }
     requires bn { AreFlagsOf bn.now (length outn.old) }
     requires outn { AreFlagsOf outn.old (length out.old) }
-    ensures { IsRun (λ i. applied2 op (cell_in a.now an.now i) (cell_in b.now bn.now i))
+    ensures { IsRun (λ i. applied2 op (run_cell a.now an.now i) (run_cell b.now bn.now i))
         (length out.old) result out.new outn.new }
 {
     if op == Op2::Overlay {
@@ -56,7 +56,7 @@ fn on_numbers(
     requires nulls { AreFlagsOf nulls.now (length out.old) }
     ensures { IsRun
         (λ i. unless_null (is_null nulls.now i)
-        (of_numbers op (number_in a.now i) (number_in b.now i)))
+        (of_numbers op (run_number a.now i) (run_number b.now i)))
         (length out.old) result out.new nulls.now }
 {
     match op {
@@ -86,7 +86,7 @@ fn multiply(a: &[i64], b: &[i64], nulls: &[bool], out: &mut [i64]) -> Result<(),
     requires nulls { AreFlagsOf nulls.now (length out.old) }
     ensures { IsRun
         (λ i. unless_null (is_null nulls.now i)
-        (of_numbers Op2.Mul (number_in a.now i) (number_in b.now i)))
+        (of_numbers Op2.Mul (run_number a.now i) (run_number b.now i)))
         (length out.old) result out.new nulls.now }
 {
     if each::<MulSmall>(a, b, out, 0, out.len()) {
@@ -107,7 +107,7 @@ fn run_binary<O: Binary>(
     requires b { length b.now ≡ length out.old }
     requires nulls { AreFlagsOf nulls.now (length out.old) }
     ensures { IsRun
-        (λ i. unless_null (is_null nulls.now i) (O.outcome (number_in a.now i) (number_in b.now i)))
+        (λ i. unless_null (is_null nulls.now i) (O.outcome (run_number a.now i) (run_number b.now i)))
         (length out.old) result out.new nulls.now }
 {
     let mut from = 0;
@@ -127,9 +127,9 @@ fn each<O: Binary>(a: &[i64], b: &[i64], out: &mut [i64], from: usize, to: usize
     requires b { length b.now ≡ length out.old }
     requires order { from ≤ to }
     requires to { to ≤ length out.old }
-    ensures before { (i : ℕ) → i < from → number_in out.new i ≡ number_in out.old i }
+    ensures before { (i : ℕ) → i < from → run_number out.new i ≡ run_number out.old i }
     ensures block { result ≡ false
-        → AreOutcomes (λ i. O.outcome (number_in a.now i) (number_in b.now i)) from to out.new }
+        → AreOutcomes (λ i. O.outcome (run_number a.now i) (run_number b.now i)) from to out.new }
 {
     let mut faulty = false;
     for i in from..to {
@@ -155,10 +155,10 @@ fn one_by_one<O: Binary>(
     requires order { from ≤ to }
     requires to { to ≤ length out.old }
     requires before { HoldsBelow
-        (λ i. unless_null (is_null nulls.now i) (O.outcome (number_in a.now i) (number_in b.now i)))
+        (λ i. unless_null (is_null nulls.now i) (O.outcome (run_number a.now i) (run_number b.now i)))
         from out.old nulls.now }
     ensures { IsRun
-        (λ i. unless_null (is_null nulls.now i) (O.outcome (number_in a.now i) (number_in b.now i)))
+        (λ i. unless_null (is_null nulls.now i) (O.outcome (run_number a.now i) (run_number b.now i)))
         to result out.new nulls.now }
 {
     for i in from..to {

@@ -3,7 +3,7 @@ ghost use Rattle.std.specs.Prelude.{◌≡◌, ◌<◌, ◌&&◌, ◌||◌, ℕ,
 ghost use Rattle.ras_cells.specs.Cells.{applied2};
 ghost use Rattle.ras_cells.specs.Numbers.{is_zero};
 ghost use Rattle.ras_kernel.specs.Numbers.{gives_way};
-ghost use Rattle.ras_kernel.specs.Runs.{AreFlagsOf, HoldsBelow, cell_in, is_null, number_in};
+ghost use Rattle.ras_kernel.specs.Runs.{AreFlagsOf, HoldsBelow, run_cell, is_null, run_number};
 
 use ras_cells::Op2;
 
@@ -22,7 +22,7 @@ pub(crate) fn overlay(
     requires bn { AreFlagsOf bn.now (length outn.old) }
     requires outn { AreFlagsOf outn.old (length out.old) }
     ensures { HoldsBelow
-        (λ i. applied2 Op2.Overlay (cell_in a.now an.now i) (cell_in b.now bn.now i))
+        (λ i. applied2 Op2.Overlay (run_cell a.now an.now i) (run_cell b.now bn.now i))
         (length out.old) out.new outn.new }
 {
     choose_nulls(an, b, bn, outn);
@@ -55,7 +55,7 @@ fn choose_nulls_by_numbers(an: &[bool], b: &[i64], outn: &mut [bool])
     requires an { length an.now ≡ length outn.old }
     requires b { length b.now ≡ length outn.old }
     ensures { (i : ℕ) → i < length outn.old
-        → is_null outn.new i ≡ (is_null an.now i && is_zero (number_in b.now i)) }
+        → is_null outn.new i ≡ (is_null an.now i && is_zero (run_number b.now i)) }
 {
     for i in 0..outn.len() {
         outn[i] = an[i] & (b[i] == 0);
@@ -80,8 +80,8 @@ fn choose_by_numbers(a: &[i64], b: &[i64], out: &mut [i64])
     requires a { length a.now ≡ length out.old }
     requires b { length b.now ≡ length out.old }
     ensures { (i : ℕ) → i < length out.old
-        → number_in out.new i
-        ≡ (if is_zero (number_in b.now i) then number_in a.now i else number_in b.now i) }
+        → run_number out.new i
+        ≡ (if is_zero (run_number b.now i) then run_number a.now i else run_number b.now i) }
 {
     for i in 0..out.len() {
         out[i] = choose(false, a[i], b[i]);
@@ -94,8 +94,8 @@ fn choose_by_cells(a: &[i64], b: &[i64], bn: &[bool], out: &mut [i64])
     requires b { length b.now ≡ length out.old }
     requires bn { length bn.now ≡ length out.old }
     ensures { (i : ℕ) → i < length out.old
-        → number_in out.new i
-        ≡ (if gives_way b.now bn.now i then number_in a.now i else number_in b.now i) }
+        → run_number out.new i
+        ≡ (if gives_way b.now bn.now i then run_number a.now i else run_number b.now i) }
 {
     for i in 0..out.len() {
         out[i] = choose(bn[i], a[i], b[i]);

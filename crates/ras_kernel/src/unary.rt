@@ -3,7 +3,7 @@ ghost use Rattle.std.specs.Prelude.{◌≡◌, ◌<◌, ◌≤◌, ℕ, length, 
 ghost use Rattle.ras_cells.specs.Cells.{applied1, cast_to};
 ghost use Rattle.ras_cells.specs.Numbers.{of_number};
 ghost use Rattle.ras_kernel.specs.Numbers.{AreOutcomes, unless_null};
-ghost use Rattle.ras_kernel.specs.Runs.{AreFlagsOf, HoldsBelow, IsRun, cell_in, is_null, number_in};
+ghost use Rattle.ras_kernel.specs.Runs.{AreFlagsOf, HoldsBelow, IsRun, run_cell, is_null, run_number};
 
 use crate::blocks::end_of_block;
 use crate::nulls::{is_null_at, join};
@@ -23,7 +23,7 @@ pub fn run1(
     requires a { length a.now ≡ length out.old }
     requires an { AreFlagsOf an.now (length outn.old) }
     requires outn { AreFlagsOf outn.old (length out.old) }
-    ensures { IsRun (λ i. applied1 op (cell_in a.now an.now i))
+    ensures { IsRun (λ i. applied1 op (run_cell a.now an.now i))
         (length out.old) result out.new outn.new }
 {
     join(an, &[], outn);
@@ -41,7 +41,7 @@ pub fn run_cast(
     requires a { length a.now ≡ length out.old }
     requires an { AreFlagsOf an.now (length outn.old) }
     requires outn { AreFlagsOf outn.old (length out.old) }
-    ensures { IsRun (λ i. cast_to to (cell_in a.now an.now i))
+    ensures { IsRun (λ i. cast_to to (run_cell a.now an.now i))
         (length out.old) result out.new outn.new }
 {
     join(an, &[], outn);
@@ -52,7 +52,7 @@ pub fn run_cast(
 fn on_numbers(op: Op1, a: &[i64], nulls: &[bool], out: &mut [i64]) -> Result<(), (usize, CellFault)>
     requires a { length a.now ≡ length out.old }
     requires nulls { AreFlagsOf nulls.now (length out.old) }
-    ensures { IsRun (λ i. unless_null (is_null nulls.now i) (of_number op (number_in a.now i)))
+    ensures { IsRun (λ i. unless_null (is_null nulls.now i) (of_number op (run_number a.now i)))
         (length out.old) result out.new nulls.now }
 {
     match op {
@@ -73,7 +73,7 @@ fn run_unary<O: Unary>(
     requires a { length a.now ≡ length out.old }
     requires nulls { AreFlagsOf nulls.now (length out.old) }
     ensures { IsRun
-        (λ i. unless_null (is_null nulls.now i) (O.outcome operation.now (number_in a.now i)))
+        (λ i. unless_null (is_null nulls.now i) (O.outcome operation.now (run_number a.now i)))
         (length out.old) result out.new nulls.now }
 {
     let mut from = 0;
@@ -92,9 +92,9 @@ fn each<O: Unary>(operation: &O, a: &[i64], out: &mut [i64], from: usize, to: us
     requires a { length a.now ≡ length out.old }
     requires order { from ≤ to }
     requires to { to ≤ length out.old }
-    ensures before { (i : ℕ) → i < from → number_in out.new i ≡ number_in out.old i }
+    ensures before { (i : ℕ) → i < from → run_number out.new i ≡ run_number out.old i }
     ensures block { result ≡ false
-        → AreOutcomes (λ i. O.outcome operation.now (number_in a.now i)) from to out.new }
+        → AreOutcomes (λ i. O.outcome operation.now (run_number a.now i)) from to out.new }
 {
     let mut faulty = false;
     for i in from..to {
@@ -119,10 +119,10 @@ fn one_by_one<O: Unary>(
     requires order { from ≤ to }
     requires to { to ≤ length out.old }
     requires before { HoldsBelow
-        (λ i. unless_null (is_null nulls.now i) (O.outcome operation.now (number_in a.now i)))
+        (λ i. unless_null (is_null nulls.now i) (O.outcome operation.now (run_number a.now i)))
         from out.old nulls.now }
     ensures { IsRun
-        (λ i. unless_null (is_null nulls.now i) (O.outcome operation.now (number_in a.now i)))
+        (λ i. unless_null (is_null nulls.now i) (O.outcome operation.now (run_number a.now i)))
         to result out.new nulls.now }
 {
     for i in from..to {

@@ -1,7 +1,7 @@
 //! The numbers of a run, each as one of 64 bits.
 ghost use Rattle.std.specs.Prelude.{◌≡◌, length, map};
 ghost use Rattle.ras_cells.specs.Runs.{IsRunOf};
-ghost use Rattle.ras_kernel.specs.Runs.{HasLength};
+ghost use Rattle.ras_cells.specs.Runs.{HasLength};
 
 use ras_cells::Run;
 

@@ -8,7 +8,7 @@ use Rattle.ras_parse.specs.declared.stop.Stop.{Stop}
 use Rattle.ras_syntax.specs.declared.expr.Expr.{Expr}
 use Rattle.ras_syntax.specs.declared.expr.ExprForm.{ExprForm}
 use Rattle.spec_grammar.specs.Grammar.{tree}
-use Rattle.ras_parse.specs.Inputs.{Input, left, first, taken, Goes, Steps, Accepts, Takes, ExpectsKind, Gives, Reads}
+use Rattle.ras_parse.specs.Inputs.{Input, left, first, taken, Goes, Steps, Accepts, TakesToken, ExpectsKind, Gives, Reads}
 use Rattle.ras_parse.proofs.Readings.{chosen, accept_or-is, refuse-is, mapped-is, with_tokens-is}
 
 -- ---- inputs
@@ -90,15 +90,15 @@ entered {p} {old} {new} h e g f = accept_or-is p g f (left old) ∙ ap (λ o. ch
 pub first-left : {p : Token → Option Token} {old new : Input} {b : Truth} → Accepts p old b new → b ≡ true → left old ≡ first (left old) ∷ left new
 first-left {p} {old} {new} {b} h e = subst (λ v. left old ≡ (if v then first (left old) ∷ left new else left new)) e h.steps.is
 
-pub missed : {A : Type 0} {p : Token → Option A} {old new : Input} → Takes p old None new
+pub missed : {A : Type 0} {p : Token → Option A} {old new : Input} → TakesToken p old None new
     → {B : Type 0} (g : A → Reader B) (f : Reader B) → accept_or p g f (left old) ≡ f (left new)
 missed {A} {p} {old} {new} h g f = accept_or-is p g f (left old) ∙ ap (λ o. chosen o g (f (left old))) h.took ∙ ap f h.steps.is
 
-pub met : {A : Type 0} {p : Token → Option A} {old new : Input} {x : A} → Takes p old (Some x) new
+pub met : {A : Type 0} {p : Token → Option A} {old new : Input} {x : A} → TakesToken p old (Some x) new
     → {B : Type 0} (g : A → Reader B) (f : Reader B) → accept_or p g f (left old) ≡ g x (left new)
 met {A} {p} {old} {new} h g f = accept_or-is p g f (left old) ∙ ap (λ o. chosen o g (f (left old))) h.took
 
-pub goes-past : {A : Type 0} {p : Token → Option A} {old new : Input} {x : Option A} → Takes p old x new → Goes old new
+pub goes-past : {A : Type 0} {p : Token → Option A} {old new : Input} {x : Option A} → TakesToken p old x new → Goes old new
 goes-past h = goes-step _ h.steps
 
 pub found : (kind : TokenKind) {old new : Input} {u : Unit {0}} → ExpectsKind kind old (Ok u) new

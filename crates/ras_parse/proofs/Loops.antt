@@ -14,8 +14,8 @@ use Rattle.law_grammar.specs.Reading.{if_room, with_item, comma_list, row_read, 
 use Rattle.ras_parse.specs.declared.stop.Stop.{Stop}
 use Rattle.ras_parse.specs.declared.stop.Stop.TheVariants.{Unexpected}
 use Rattle.ras_syntax.specs.declared.expr.Axis.{Axis}
-use Rattle.ras_parse.specs.Parts.{part_form, parts_from}
-use Rattle.ras_parse.specs.Inputs.{Input, left, Goes, taken, Takes, Reads}
+use Rattle.ras_parse.specs.Parts.{form_of_part, parts_from}
+use Rattle.ras_parse.specs.Inputs.{Input, left, Goes, taken, TakesToken, Reads}
 use Rattle.ras_parse.proofs.Readings.{chosen, accept_or-is, refuse-is, mapped-is}
 use Rattle.ras_parse.proofs.Follows.{goes-same, goes-on, goes-past, made}
 
@@ -209,7 +209,7 @@ module _ (operators : Table Op2) (item : Reader Expr) where
   pub chain-none : {old : Input} {e : Stop} {new : Input} → Reads item old (Err e) new → Reads (chain_read operators item) old (Err e) new
   chain-none {old} {e} {new} h = record { gives = λ k. chain-first old (Err (left new)) (h.gives k) }
 
-  pub chain-wrong : {old : Input} {x : Expr} {now mid new : Input} {op : Op2} {e : Stop} → InChain operators item old x now → Takes (meant operators) now (Some op) mid
+  pub chain-wrong : {old : Input} {x : Expr} {now mid new : Input} {op : Op2} {e : Stop} → InChain operators item old x now → TakesToken (meant operators) now (Some op) mid
       → Reads item mid (Err e) new → Reads (chain_read operators item) old (Err e) new
   chain-wrong {old} {x} {now} {mid} {new} {op} {e} l t h = record {
     gives = λ k. turning-wrong (λ x. meant operators) (with_operand item) (left old) x (left now) (chain_read operators item (left old)) op (left mid) (left new)
@@ -219,7 +219,7 @@ module _ (operators : Table Op2) (item : Reader Expr) where
   }
 
   pub chain-goes : {old : Input} {x y : Expr} {now mid new : Input} {op : Op2} (start : ℕ) (form : ExprForm) (z : Expr) → InChain operators item old x now
-      → Takes (meant operators) now (Some op) mid → Reads item mid (Ok y) new → start ≡ old.at → form ≡ forms.Binary op x y
+      → TakesToken (meant operators) now (Some op) mid → Reads item mid (Ok y) new → start ≡ old.at → form ≡ forms.Binary op x y
       → z ≡ tree (before (drop start new.tokens) (left new)) form → InChain operators item old z new
   chain-goes {old} {x} {y} {now} {mid} {new} {op} start form z l t h at is e =
       let goes : Goes old new = goes-on l.goes (goes-on (goes-past t) h.gives.0) in
@@ -233,7 +233,7 @@ module _ (operators : Table Op2) (item : Reader Expr) where
             ∙ ap (λ o. then_read o (λ y rest. Ok ((λ ts. tree ts (forms.Binary op x y)), rest))) h.gives.1) h.gives.0.fewer);
       }
 
-  pub chain-ends : {old : Input} {x : Expr} {now new : Input} → InChain operators item old x now → Takes (meant operators) now None new
+  pub chain-ends : {old : Input} {x : Expr} {now new : Input} → InChain operators item old x now → TakesToken (meant operators) now None new
       → Reads (chain_read operators item) old (Ok x) new
   chain-ends {old} {x} {now} {new} l t = record {
     gives = (
@@ -248,7 +248,7 @@ module _ (operators : Table Op2) (item : Reader Expr) where
 as_told : ReadOutcome ExprForm → ReadOutcome (List Token → Expr)
 as_told o = then_read o (λ form rest. Ok ((λ ts. tree ts form), rest))
 
-with_part-is : (E : Level → Reader Expr) (x : Expr) (b : Truth) (s : List Token) → with_part E x b s ≡ as_told (part_form E x b s)
+with_part-is : (E : Level → Reader Expr) (x : Expr) (b : Truth) (s : List Token) → with_part E x b s ≡ as_told (form_of_part E x b s)
 unfolding as_told give refuse
 with_part-is E x true s =
     mapped-is (λ axes ts. tree ts (forms.Index x axes)) (index_rest E) s ∙ at (index_rest E s)
@@ -299,8 +299,8 @@ pub parts-begin : (E : Level → Reader Expr) (start : ℕ) (of : Expr) (old : I
 parts-begin E start of old = record { goes = goes-same old; turning = turning-begins (λ x. meant part_signs) (with_part E) (drop start old.tokens) of (left old) }
 
 module _ (E : Level → Reader Expr) (start : ℕ) where
-  pub parts-go : {of x : Expr} {old now mid new : Input} {b : Truth} (form : ExprForm) (z : Expr) → InParts E start of old x now → Takes (meant part_signs) now (Some b) mid
-      → Reads (part_form E x b) mid (Ok form) new → z ≡ tree (before (drop start new.tokens) (left new)) form → InParts E start of old z new
+  pub parts-go : {of x : Expr} {old now mid new : Input} {b : Truth} (form : ExprForm) (z : Expr) → InParts E start of old x now → TakesToken (meant part_signs) now (Some b) mid
+      → Reads (form_of_part E x b) mid (Ok form) new → z ≡ tree (before (drop start new.tokens) (left new)) form → InParts E start of old z new
   parts-go {of} {x} {old} {now} {mid} {new} {b} form z l t h e =
       let goes : Goes old new = goes-on l.goes (goes-on (goes-past t) h.gives.0) in
       let e' : z ≡ tree (before (drop start old.tokens) (left new)) form = e ∙ ap (λ ts. tree (before (drop start ts) (left new)) form) goes.same in
@@ -309,17 +309,17 @@ module _ (E : Level → Reader Expr) (start : ℕ) where
         turning = subst (λ v. Turning (λ x. meant part_signs) (with_part E) (drop start old.tokens) v (left new) (parts_from E (drop start old.tokens) of (left old))) (sym e')
             (turning-goes (λ x. meant part_signs) (with_part E) (drop start old.tokens) x (left now) (parts_from E (drop start old.tokens) of (left old)) b (left mid)
             (λ ts. tree ts form) (left new) l.turning t.took
-            (with_part-is E x b (left mid) ∙ told-ok form (part_form E x b (left mid)) (left new) h.gives.1) h.gives.0.fewer);
+            (with_part-is E x b (left mid) ∙ told-ok form (form_of_part E x b (left mid)) (left new) h.gives.1) h.gives.0.fewer);
       }
 
-  pub parts-wrong : {of x : Expr} {old now mid new : Input} {b : Truth} {e : Stop} → InParts E start of old x now → Takes (meant part_signs) now (Some b) mid
-      → Reads (part_form E x b) mid (Err e) new → Reads (parts_from E (drop start old.tokens) of) old (Err e) new
+  pub parts-wrong : {of x : Expr} {old now mid new : Input} {b : Truth} {e : Stop} → InParts E start of old x now → TakesToken (meant part_signs) now (Some b) mid
+      → Reads (form_of_part E x b) mid (Err e) new → Reads (parts_from E (drop start old.tokens) of) old (Err e) new
   parts-wrong {of} {x} {old} {now} {mid} {new} {b} {e} l t h = record {
     gives = λ k. turning-wrong (λ x. meant part_signs) (with_part E) (drop start old.tokens) x (left now) (parts_from E (drop start old.tokens) of (left old)) b (left mid) (left new)
-        l.turning t.took (with_part-is E x b (left mid) ∙ told-wrong (part_form E x b (left mid)) (left new) (h.gives k));
+        l.turning t.took (with_part-is E x b (left mid) ∙ told-wrong (form_of_part E x b (left mid)) (left new) (h.gives k));
   }
 
-  pub parts-end : {of x : Expr} {old now new : Input} → InParts E start of old x now → Takes (meant part_signs) now None new
+  pub parts-end : {of x : Expr} {old now new : Input} → InParts E start of old x now → TakesToken (meant part_signs) now None new
       → Reads (parts_from E (drop start old.tokens) of) old (Ok x) new
   parts-end {of} {x} {old} {now} {new} l t = record {
     gives = (

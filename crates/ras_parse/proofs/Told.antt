@@ -20,7 +20,7 @@ use Rattle.ras_parse.specs.declared.token.Token as code
 use Rattle.ras_parse.specs.declared.verdict.Outcome.{Outcome}
 use Rattle.ras_parse.specs.Reading.{IsFront}
 use Rattle.ras_parse.specs.Seen.{tokens_in}
-use Rattle.ras_parse.specs.Told.{form_before, outcome_of, told_by}
+use Rattle.ras_parse.specs.Told.{form_before, outcome_read, told_by}
 
 -- ---- the front
 
@@ -78,7 +78,7 @@ told_after-is text heavy own ts = at (read_form ts)
     at (Err rest) = refl
 
 -- where no token is too heavy, at the text's end
-told-end : (text : Text) (o : ReadOutcome StatementForm) → told_after text None None o ≡ told_by text behind.End (outcome_of o)
+told-end : (text : Text) (o : ReadOutcome StatementForm) → told_after text None None o ≡ told_by text behind.End (outcome_read o)
 unfolding told_after ended
 told-end text (Ok p) = at p.0 p.1
   where
@@ -89,7 +89,7 @@ told-end text (Err []) = refl
 told-end text (Err (t ∷ rest)) = refl
 
 -- before a fault of a token's own
-told-own : (text : Text) (f : SyntaxFault) (o : ReadOutcome StatementForm) → told_after text None (Some f) o ≡ told_by text (behind.Fault f) (outcome_of o)
+told-own : (text : Text) (f : SyntaxFault) (o : ReadOutcome StatementForm) → told_after text None (Some f) o ≡ told_by text (behind.Fault f) (outcome_read o)
 unfolding told_after ended
 told-own text f (Ok p) = at p.0 p.1
   where
@@ -101,7 +101,7 @@ told-own text f (Err (t ∷ rest)) = refl
 
 -- where the last token is too heavy, whatever fault comes behind
 told-heavy : (text : Text) (u : Token) (own : Option SyntaxFault) (o : ReadOutcome StatementForm)
-    → told_after text (Some u) own o ≡ told_by text (behind.TooHeavy u.from) (outcome_of o)
+    → told_after text (Some u) own o ≡ told_by text (behind.TooHeavy u.from) (outcome_read o)
 unfolding told_after ended
 told-heavy text u own (Ok p) = at p.0 p.1
   where
@@ -135,7 +135,7 @@ heavy_front text ts place h = (
 )
 
 -- the verdict on a text, from what reading the tokens at its front gave and what stands behind them
-pub verdict_of-front : (text : Text) (ts : List Token) (b : Behind) → IsFront text ts b → verdict_of text ≡ told_by text b (outcome_of (read_form ts))
+pub verdict_of-front : (text : Text) (ts : List Token) (b : Behind) → IsFront text ts b → verdict_of text ≡ told_by text b (outcome_read (read_form ts))
 verdict_of-front text ts behind.End h =
     verdict_of-with text _ (ts, None) None h.0 (light_front-whole MAX_WEIGHT ts h.1) refl ∙ told-end text (read_form ts)
 verdict_of-front text ts (behind.Fault f) h =
@@ -143,7 +143,7 @@ verdict_of-front text ts (behind.Fault f) h =
 verdict_of-front text ts (behind.TooHeavy place) h =
     let k = heavy_front text ts place h in
     verdict_of-with text (lexed text) (ts, Some k.0) (lexed text).fault refl k.2 refl ∙ told-heavy text k.0 (lexed text).fault (read_form ts)
-    ∙ ap (λ n. told_by text (behind.TooHeavy n) (outcome_of (read_form ts))) (sym k.1)
+    ∙ ap (λ n. told_by text (behind.TooHeavy n) (outcome_read (read_form ts))) (sym k.1)
 
 -- ---- depth
 
@@ -163,15 +163,15 @@ front-depth text ts b h =
 
 -- what is told of the front is the verdict
 pub front-told : (text : Text) (ts : List Token) (b : Behind) → IsFront text ts b
-    → IsVerdict text (told_by text b (outcome_of (form_read (reads (MAX_WEIGHT + 3)) ts)))
+    → IsVerdict text (told_by text b (outcome_read (form_read (reads (MAX_WEIGHT + 3)) ts)))
 front-told text ts b h =
-    subst (IsVerdict text) (verdict_of-front text ts b h ∙ ap (λ o. told_by text b (outcome_of o)) (sym (front-depth text ts b h))) (verdict_of-is text)
+    subst (IsVerdict text) (verdict_of-front text ts b h ∙ ap (λ o. told_by text b (outcome_read o)) (sym (front-depth text ts b h))) (verdict_of-is text)
 
 -- what is answered of the tokens at a text's front is the verdict
 pub front-answered : (text : Text) (items now : List code.Token) (b : Behind) (o : Outcome) (r : Result Statement SyntaxFault)
-    → IsFront text (tokens_in text items) b → now ≡ items → o ≡ outcome_of (form_read (reads (MAX_WEIGHT + 3)) (tokens_in text now))
+    → IsFront text (tokens_in text items) b → now ≡ items → o ≡ outcome_read (form_read (reads (MAX_WEIGHT + 3)) (tokens_in text now))
     → r ≡ told_by text b o → IsVerdict text r
 front-answered text items now b o r front same is told =
     subst (IsVerdict text)
-    (sym (told ∙ ap (told_by text b) (is ∙ ap (λ ts. outcome_of (form_read (reads (MAX_WEIGHT + 3)) (tokens_in text ts))) same)))
+    (sym (told ∙ ap (told_by text b) (is ∙ ap (λ ts. outcome_read (form_read (reads (MAX_WEIGHT + 3)) (tokens_in text ts))) same)))
     (front-told text (tokens_in text items) b front)

@@ -6,7 +6,7 @@ use Rattle.std.proofs.Common.{refl, sym, ap, subst, ◌∙◌, arith}
 use Rattle.spec_grammar.specs.Tokens.{Text, is_same, TokenKind, name, word, number, sign, Token}
 use Rattle.law_grammar.specs.Readers.{same_kind, exactly}
 use Rattle.ras_parse.specs.Seen.{says, shows}
-use Rattle.ras_parse.specs.Inputs.{Input, left, next, first, taken, Goes, Steps, Accepts, Takes}
+use Rattle.ras_parse.specs.Inputs.{Input, left, next, first, taken, Goes, Steps, Accepts, TakesToken}
 use Rattle.law_grammar.specs.Reading.{name_of, placed_name}
 use Rattle.spec_grammar.specs.Grammar.{span_of}
 use Rattle.ras_syntax.specs.declared.span.Spanned.{Spanned}
@@ -27,16 +27,16 @@ steps-not i = record { same = refl; is = refl; fewer = refl }
 steps-one : (i j : Input) (t : Token) → left i ≡ t ∷ left (next i) → j ≡ next i → Steps true i j
 steps-one i j t e is = subst (Steps true i) (sym is) (record { same = refl; is = e ∙ ap (λ u. u ∷ left (next i)) (sym (ap first e)); fewer = ap length e })
 
-pub takes-end : {A : Type 0} (p : Token → Option A) (i : Input) → left i ≡ [] → Takes p i None i
+pub takes-end : {A : Type 0} (p : Token → Option A) (i : Input) → left i ≡ [] → TakesToken p i None i
 takes-end p i e = record { steps = steps-not i; took = taken-nil p (left i) e }
 
-pub takes-not : {A : Type 0} (p : Token → Option A) (i : Input) (t : Token) → left i ≡ t ∷ left (next i) → p t ≡ None → Takes p i None i
+pub takes-not : {A : Type 0} (p : Token → Option A) (i : Input) (t : Token) → left i ≡ t ∷ left (next i) → p t ≡ None → TakesToken p i None i
 takes-not p i t e h = record {
   steps = steps-not i;
   took = taken-cons p (left i) t (left (next i)) e ∙ ap (option_map (λ x. (x, left (next i)))) h;
 }
 
-pub takes-it : {A : Type 0} (p : Token → Option A) (i j : Input) (t : Token) (x : A) → left i ≡ t ∷ left (next i) → p t ≡ Some x → j ≡ next i → Takes p i (Some x) j
+pub takes-it : {A : Type 0} (p : Token → Option A) (i j : Input) (t : Token) (x : A) → left i ≡ t ∷ left (next i) → p t ≡ Some x → j ≡ next i → TakesToken p i (Some x) j
 takes-it {A} p i j t x e h is = record {
   steps = steps-one i j t e is;
   took = taken-cons p (left i) t (left (next i)) e ∙ ap (option_map (λ x. (x, left (next i)))) h ∙ ap (λ k. Some (x, left k)) (sym is);
@@ -53,7 +53,7 @@ expects-not p i t e h = (refl, (takes-not p i t e h).took)
 pub expects-it : {A : Type 0} (p : Token → Option A) (i j : Input) (t : Token) (x : A) → left i ≡ t ∷ left (next i) → p t ≡ Some x → j ≡ next i
     → Goes i j × (taken p (left i) ≡ Some (x, left j))
 expects-it p i j t x e h is =
-    let s : Takes p i (Some x) j = takes-it p i j t x e h is in
+    let s : TakesToken p i (Some x) j = takes-it p i j t x e h is in
     (record { same = s.steps.same; fewer = (let k : length (left i) ≡ suc (length (left j)) = s.steps.fewer in omega arith) }, s.took)
 
 placed : (t : Token) → Option Text → Option Spanned

@@ -8,6 +8,6 @@ use Rattle.ras_parse.specs.Inputs.{Input}
 abbrev pub input_of : Inside → Input
 input_of c = record { tokens = tokens_in c.text.now c.tokens.now; at = c.at }
 
-pub record IsReady (c : Inside) : Type 0 where
+pub record IsCursor (c : Inside) : Type 0 where
   pub within : c.at ≤ length c.tokens.now
   pub stand : All (StandsIn c.text.now) c.tokens.now

@@ -57,7 +57,7 @@ pub record Accepts (p : Token → Option Token) (old : Input) (is_there : Truth)
   pub took : taken p (left old) ≡ (if is_there then Some (first (left old), left new) else None)
 
 -- the next token was read if it means something
-pub record Takes {A : Type 0} (p : Token → Option A) (old : Input) (x : Option A) (new : Input) : Type 0 where
+pub record TakesToken {A : Type 0} (p : Token → Option A) (old : Input) (x : Option A) (new : Input) : Type 0 where
   pub steps : Steps (is_some x) old new
   pub took : taken p (left old) ≡ option_map (λ x. (x, left new)) x
 

@@ -15,9 +15,9 @@ component_form x = accept_or name_of (λ text. give (forms.Part x (parts.Named t
     (accept plain_number_of (λ z. give (forms.Part x (parts.Numbered z))))
 
 -- an index is told from a component
-abbrev pub part_form : (Level → Reader Expr) → Expr → Truth → Reader ExprForm
-part_form E x true = mapped (λ axes. forms.Index x axes) (index_rest E)
-part_form E x false = component_form x
+abbrev pub form_of_part : (Level → Reader Expr) → Expr → Truth → Reader ExprForm
+form_of_part E x true = mapped (λ axes. forms.Index x axes) (index_rest E)
+form_of_part E x false = component_form x
 
 -- {{ index | "." name | "." number }}, behind a part whose tokens begin a list
 abbrev pub parts_from : (Level → Reader Expr) → List Token → Expr → Reader Expr

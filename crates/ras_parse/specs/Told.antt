@@ -26,9 +26,9 @@ abbrev pub wrong_from : List Token → Outcome
 wrong_from [] = Cut
 wrong_from (t ∷ rest) = Wrong t.from
 
-abbrev pub outcome_of : ReadOutcome StatementForm → Outcome
-outcome_of (Ok p) = form_before p.0 p.1
-outcome_of (Err rest) = wrong_from rest
+abbrev pub outcome_read : ReadOutcome StatementForm → Outcome
+outcome_read (Ok p) = form_before p.0 p.1
+outcome_read (Err rest) = wrong_from rest
 
 -- ---- what is told
 

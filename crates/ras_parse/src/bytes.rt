@@ -26,7 +26,7 @@ pub fn is_digit(byte: u8) -> bool
 }
 
 /// Whether the byte is a space, a tab, a carriage return or a line feed.
-fn is_blank(byte: u8) -> bool
+pub fn is_blank(byte: u8) -> bool
     ensures { result ≡ spec.is_blank byte }
 {
     byte == b' ' || byte == b'\t' || byte == b'\r' || byte == b'\n'

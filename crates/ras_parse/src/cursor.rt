@@ -6,7 +6,7 @@ ghost use Rattle.law_grammar.specs.Readers.{exactly, meant, before};
 ghost use Rattle.law_grammar.specs.Reading as read;
 ghost use Rattle.ras_parse.specs.Seen.{token_in, tokens_in, StandsIn};
 ghost use Rattle.ras_parse.specs.Tables.{table_of};
-ghost use Rattle.ras_parse.specs.Inputs.{left, next, first_place, first_passes, Accepts, Takes, Expects, ExpectsKind};
+ghost use Rattle.ras_parse.specs.Inputs.{left, next, first_place, first_passes, Accepts, TakesToken, Expects, ExpectsKind};
 
 use crate::session::retries_of;
 use crate::stop::Stop;
@@ -30,9 +30,9 @@ pub struct Cursor<'t> {
 
 /// A token of a text.
 #[derive(Clone, Copy)]
-struct Front<'t> {
-    text: &'t [u8],
-    token: Token,
+pub struct Front<'t> {
+    pub text: &'t [u8],
+    pub token: Token,
 }
 
 impl<'t> Model for Cursor<'t> {
@@ -40,11 +40,11 @@ impl<'t> Model for Cursor<'t> {
 
     ghost Value = { Input };
 
-    ghost use Rattle.ras_parse.specs.CursorView.{input_of, IsReady};
+    ghost use Rattle.ras_parse.specs.CursorView.{input_of, IsCursor};
 
     ghost view = { input_of };
 
-    ghost invariant = { IsReady };
+    ghost invariant = { IsCursor };
 }
 
 impl<'t> Cursor<'t> {
@@ -68,7 +68,7 @@ impl<'t> Cursor<'t> {
     }
 
     /// The next token.
-    fn peek(&self) -> Option<Front<'t>>
+    pub fn peek(&self) -> Option<Front<'t>>
         ensures token { MatchOption result (left self.now ≡ []) (λ f. left self.now ≡ token_in f.text.now f.token ∷ left (next self.now)) }
         ensures stands { MatchOption result (left self.now ≡ []) (λ f. StandsIn f.text.now f.token) }
     {
@@ -83,7 +83,7 @@ impl<'t> Cursor<'t> {
     }
 
     /// Goes behind the next token.
-    fn advance(&mut self)
+    pub fn advance(&mut self)
         requires { 0 < length (left self.old) }
         ensures { self.new ≡ next self.old }
     {
@@ -150,7 +150,7 @@ impl<'t> Cursor<'t> {
 
     /// Reads the next token if it is a name, and gives its bytes.
     pub fn name(&mut self) -> Option<&'t [u8]>
-        ensures { Takes read.name_of self.old (option_copied result) self.new }
+        ensures { TakesToken read.name_of self.old (option_copied result) self.new }
     {
         let Some(front) = self.peek() else {
             return None;
@@ -164,7 +164,7 @@ impl<'t> Cursor<'t> {
 
     /// Reads the next token if it is a number, and gives its atom with it.
     pub fn number(&mut self) -> Option<(i64, Atom)>
-        ensures { Takes read.number_of self.old result self.new }
+        ensures { TakesToken read.number_of self.old result self.new }
     {
         let Some(front) = self.peek() else {
             return None;
@@ -178,7 +178,7 @@ impl<'t> Cursor<'t> {
 
     /// Reads the next token if it is a number without a suffix.
     pub fn plain_number(&mut self) -> Option<i64>
-        ensures { Takes read.plain_number_of self.old result self.new }
+        ensures { TakesToken read.plain_number_of self.old result self.new }
     {
         let Some(front) = self.peek() else {
             return None;
@@ -192,7 +192,7 @@ impl<'t> Cursor<'t> {
 
     /// Reads the next token if it is a number that may follow `retry`.
     pub fn retries(&mut self) -> Option<u32>
-        ensures { Takes read.times_of self.old result self.new }
+        ensures { TakesToken read.times_of self.old result self.new }
     {
         let Some(front) = self.peek() else {
             return None;
@@ -206,7 +206,7 @@ impl<'t> Cursor<'t> {
 
     /// Reads the next token if it stands in a table, and gives what it stands for.
     pub fn meaning<A: Copy>(&mut self, table: &Table<A>) -> Option<A>
-        ensures { Takes (meant (table_of table.now)) self.old result self.new }
+        ensures { TakesToken (meant (table_of table.now)) self.old result self.new }
     {
         let Some(front) = self.peek() else {
             return None;

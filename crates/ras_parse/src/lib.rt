@@ -1,15 +1,15 @@
 //! Reads the text of a statement.
 #![tactic(auto)]
 
-mod bytes;
-mod cursor;
+pub mod bytes;
+pub mod cursor;
 mod domains;
 mod fault;
 mod forms;
 mod grammar;
 pub mod laws;
 mod lexer;
-mod lists;
+pub mod lists;
 mod operators;
 mod parts;
 mod primary;
@@ -18,11 +18,11 @@ mod session;
 mod statement;
 #[cfg(test)]
 mod statement_tests;
-mod stop;
-mod tables;
+pub mod stop;
+pub mod tables;
 #[cfg(test)]
 mod tests;
-mod token;
+pub mod token;
 mod verdict;
 mod whole;
 

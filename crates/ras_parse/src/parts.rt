@@ -5,7 +5,7 @@ ghost use Rattle.law_grammar.specs.Reading as spec;
 ghost use Rattle.law_grammar.specs.Reading.{reads};
 ghost use Rattle.ras_parse.specs.Inputs.{Reads};
 ghost use Rattle.ras_parse.specs.Nests.{Nests};
-ghost use Rattle.ras_parse.specs.Parts.{component_form, part_form, parts_from};
+ghost use Rattle.ras_parse.specs.Parts.{component_form, form_of_part, parts_from};
 
 use crate::cursor::Cursor;
 use crate::grammar::{Grammar, Level};
@@ -60,7 +60,7 @@ impl<F: Fn(Global, &mut Cursor<'_>, usize, Level) -> Result<Boxed<Expr>, Stop>> 
     /// An index, behind its bracket.
     fn index(&self, cursor: &mut Cursor<'_>, e: Boxed<Expr>) -> Result<ExprForm, Stop>
         requires { Nests self.now.depth (F.pre self.now.read) (F.post self.now.read) }
-        ensures { Reads (part_form (reads self.now.depth) e true) cursor.old result cursor.new }
+        ensures { Reads (form_of_part (reads self.now.depth) e true) cursor.old result cursor.new }
     {
         let axes = self.index_rest(cursor)?;
         Ok(ExprForm::Index { e, axes })
@@ -74,7 +74,7 @@ impl<F: Fn(Global, &mut Cursor<'_>, usize, Level) -> Result<Boxed<Expr>, Stop>> 
         is_index: bool,
     ) -> Result<ExprForm, Stop>
         requires { Nests self.now.depth (F.pre self.now.read) (F.post self.now.read) }
-        ensures { Reads (part_form (reads self.now.depth) e is_index) cursor.old result cursor.new }
+        ensures { Reads (form_of_part (reads self.now.depth) e is_index) cursor.old result cursor.new }
     {
         if is_index {
             self.index(cursor, e)

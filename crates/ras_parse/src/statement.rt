@@ -7,7 +7,7 @@ ghost use Rattle.law_grammar.specs.Reading.{form_read, reads};
 ghost use Rattle.spec_grammar.specs.Tokens.{Token as TokenSeen};
 ghost use Rattle.ras_parse.specs.Inputs.{first_place};
 ghost use Rattle.ras_parse.specs.Seen.{tokens_in, StandsIn};
-ghost use Rattle.ras_parse.specs.Told.{form_before, wrong_from, outcome_of, IsToldFault, IsTold};
+ghost use Rattle.ras_parse.specs.Told.{form_before, wrong_from, outcome_read, IsToldFault, IsTold};
 
 use crate::cursor::Cursor;
 use crate::fault::ParseFault;
@@ -42,7 +42,7 @@ fn wrong(place: Option<u32>) -> Outcome
 /// What the tokens at a text's front are.
 fn outcome(alloc: Global, text: &[u8], tokens: &[Token]) -> Result<Outcome, AllocError>
     requires { All (StandsIn text.now) tokens.now }
-    ensures { IfOk result (λ outcome. outcome ≡ outcome_of (form_read (reads DEPTH) (tokens_in text.now tokens.now))) }
+    ensures { IfOk result (λ outcome. outcome ≡ outcome_read (form_read (reads DEPTH) (tokens_in text.now tokens.now))) }
 {
     let mut cursor = Cursor::new(text, tokens);
     match form(alloc, &mut cursor) {

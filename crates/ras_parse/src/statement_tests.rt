@@ -199,6 +199,16 @@ fn nesting_is_bounded(rt: HostRuntime) -> Result<(), Fail> {
         let text = joined(&rt, b"select ", b"not ", 127, back)?;
         assert_eq!(rt; told(&rt, &text), want, "{back:?}");
     }
+    // As deep as there may be, and cut off there.
+    let table: [(&[u8], usize, Told); 3] = [
+        (b"case when ", 127, unexpected(1277)),
+        (b"- ", 127, unexpected(261)),
+        (b"a[", 63, unexpected(133)),
+    ];
+    for (piece, times, want) in table {
+        let text = joined(&rt, b"select ", piece, times, b"")?;
+        assert_eq!(rt; told(&rt, &text), want, "{piece:?}");
+    }
     Ok(())
 }
 

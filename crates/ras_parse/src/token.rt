@@ -22,7 +22,7 @@ impl Token {
     ghost use Rattle.ras_parse.specs.Seen.{token_in, StandsIn, says, shows};
 
     /// The token's bytes.
-    pub(crate) fn bytes<'a>(&self, text: &'a [u8]) -> &'a [u8]
+    pub fn bytes<'a>(&self, text: &'a [u8]) -> &'a [u8]
         requires { StandsIn text.now self.now }
         ensures { result.now ≡ slice_range text.now self.now.span.from self.now.span.to }
     {
@@ -30,7 +30,7 @@ impl Token {
     }
 
     /// Whether it is this reserved word, which is given in small letters.
-    pub(crate) fn is_word(&self, text: &[u8], word: &[u8]) -> bool
+    pub fn is_word(&self, text: &[u8], word: &[u8]) -> bool
         requires { StandsIn text.now self.now }
         ensures test { result ≡ says word.now (token_in text.now self.now).kind }
         ensures meaning { IsTrue result ↔ ((token_in text.now self.now).kind ≡ spec.word word.now) }
@@ -43,7 +43,7 @@ impl Token {
     }
 
     /// Whether it is this sign.
-    pub(crate) fn is_sign(&self, text: &[u8], sign: &[u8]) -> bool
+    pub fn is_sign(&self, text: &[u8], sign: &[u8]) -> bool
         requires { StandsIn text.now self.now }
         ensures test { result ≡ shows sign.now (token_in text.now self.now).kind }
         ensures meaning { IsTrue result ↔ ((token_in text.now self.now).kind ≡ spec.sign sign.now) }
@@ -56,7 +56,7 @@ impl Token {
     }
 
     /// The bytes of a name.
-    pub(crate) fn name<'a>(&self, text: &'a [u8]) -> Option<&'a [u8]>
+    pub fn name<'a>(&self, text: &'a [u8]) -> Option<&'a [u8]>
         requires { StandsIn text.now self.now }
         ensures { option_copied result ≡ name_of (token_in text.now self.now) }
     {
@@ -67,7 +67,7 @@ impl Token {
     }
 
     /// A number with the atom of its suffix.
-    pub(crate) fn number(&self) -> Option<(i64, Atom)>
+    pub fn number(&self) -> Option<(i64, Atom)>
         ensures { (text : spec.Text) → result ≡ number_of (token_in text self.now) }
     {
         match self.kind {
@@ -77,7 +77,7 @@ impl Token {
     }
 
     /// A number without a suffix.
-    pub(crate) fn plain_number(&self) -> Option<i64>
+    pub fn plain_number(&self) -> Option<i64>
         ensures { (text : spec.Text) → result ≡ plain_number_of (token_in text self.now) }
     {
         match self.kind {
@@ -90,7 +90,7 @@ impl Token {
     }
 
     /// What it stands for in a table.
-    pub(crate) fn meaning<A: Copy>(&self, text: &[u8], table: &Table<A>) -> Option<A>
+    pub fn meaning<A: Copy>(&self, text: &[u8], table: &Table<A>) -> Option<A>
         requires { StandsIn text.now self.now }
         ensures { result ≡ meant (table_of table.now) (token_in text.now self.now) }
     {
@@ -102,7 +102,7 @@ impl Token {
     }
 
     /// Whether it begins an atom.
-    pub(crate) fn begins_atom(&self, text: &[u8]) -> bool
+    pub fn begins_atom(&self, text: &[u8]) -> bool
         requires { StandsIn text.now self.now }
         ensures { result ≡ begins_atom (token_in text.now self.now) }
     {
@@ -110,7 +110,7 @@ impl Token {
     }
 
     /// How much it weighs.
-    pub(crate) fn weight(&self, text: &[u8]) -> u32
+    pub fn weight(&self, text: &[u8]) -> u32
         requires { StandsIn text.now self.now }
         ensures weight { result ≡ weight_of_kind (token_in text.now self.now).kind }
         ensures most { result ≤ 2 }

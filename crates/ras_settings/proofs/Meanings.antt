@@ -9,7 +9,7 @@ use Rattle.ras_settings.specs.declared.settings.WordsFault.TheVariants.{BadSched
 use Rattle.ras_settings.specs.declared.values.Values.{Values}
 use Rattle.ras_settings.specs.Form.{Asked, Given, HasForm, HasSomeForm, options_asked_by}
 use Rattle.ras_settings.specs.Schedule.{ScheduleText}
-use Rattle.ras_settings.specs.Settings.{CommandMeans, HasOptionNumber, HasNumbers, LacksNumber, LacksNumbers, Mean, NumbersMean, OptionsMean, Outcome, ScheduleMeans, command_word, settings_of}
+use Rattle.ras_settings.specs.Settings.{CommandMeans, HasOptionNumber, HasAskedNumbers, LacksNumber, LacksNumbers, Mean, NumbersMean, OptionsMean, Outcome, ScheduleMeans, command_word, settings_of}
 use Rattle.ras_settings.specs.Values.{AreValues, options_asked}
 use Rattle.ras_settings.proofs.Forms.{same_form}
 use Rattle.ras_settings.proofs.Readings.{same_place, same_turns}
@@ -61,7 +61,7 @@ same_number least most usual (Some text) m n small one other =
     let n_small = other.at_most in
     decimal_injective m n (omega arith) (omega arith) (sym one.written ∙ other.written)
 
-same_numbers : (asked : Asked) (m n : Numbers) → HasNumbers asked m → HasNumbers asked n → m ≡ n
+same_numbers : (asked : Asked) (m n : Numbers) → HasAskedNumbers asked m → HasAskedNumbers asked n → m ≡ n
 same_numbers asked m n one other =
     let workers = same_number 1 MAX_WORKERS USUAL_WORKERS asked.workers _ _ (omega arith) one.workers other.workers in
     let seed = same_number 0 MAX_SEED USUAL_SEED asked.seed _ _ (omega arith) one.seed other.seed in
@@ -72,7 +72,7 @@ no_number : (least most usual : ℕ) (value : Option ScheduleText) (n : ℕ) →
 no_number least most usual None n lacks has = lacks
 no_number least most usual (Some text) n lacks has = lacks n has
 
-no_numbers : (asked : Asked) (numbers : Numbers) → LacksNumbers asked → HasNumbers asked numbers → ⊥
+no_numbers : (asked : Asked) (numbers : Numbers) → LacksNumbers asked → HasAskedNumbers asked numbers → ⊥
 no_numbers asked numbers (inl lacks) has = no_number 1 MAX_WORKERS USUAL_WORKERS asked.workers _ lacks has.workers
 no_numbers asked numbers (inr (inl lacks)) has = no_number 0 MAX_SEED USUAL_SEED asked.seed _ lacks has.seed
 no_numbers asked numbers (inr (inr lacks)) has = no_number 1 MAX_SIZE USUAL_SIZE asked.size _ lacks has.size

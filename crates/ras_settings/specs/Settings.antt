@@ -40,7 +40,7 @@ abbrev pub LacksNumber : ℕ → ℕ → Option ScheduleText → Type 0
 LacksNumber least most None = ⊥
 LacksNumber least most (Some text) = (n : ℕ) → ¬ IsNumberIn least most text n
 
-pub record HasNumbers (asked : Asked) (numbers : Numbers) : Type 0 where
+pub record HasAskedNumbers (asked : Asked) (numbers : Numbers) : Type 0 where
   pub workers : HasOptionNumber 1 MAX_WORKERS USUAL_WORKERS asked.workers numbers.workers
   pub seed : HasOptionNumber 0 MAX_SEED USUAL_SEED asked.seed numbers.seed
   pub size : HasOptionNumber 1 MAX_SIZE USUAL_SIZE asked.size numbers.size
@@ -105,7 +105,7 @@ CommandMeans word asked numbers outcome = (((name : CommandName) → word ≢ co
 -- before it the numbers
 abbrev pub NumbersMean : ScheduleText → Asked → Outcome → Type 0
 NumbersMean word asked outcome = (LacksNumbers asked × (outcome ≡ Err Refused))
-    ⊎ ((numbers : Numbers) × HasNumbers asked numbers × CommandMeans word asked numbers outcome)
+    ⊎ ((numbers : Numbers) × HasAskedNumbers asked numbers × CommandMeans word asked numbers outcome)
 
 -- what the words mean: their form is judged first
 abbrev pub Mean : List ScheduleText → Outcome → Type 0

@@ -1,5 +1,5 @@
 ghost use Rattle.std.specs.Prelude.{◌≡◌, ℕ, MatchOption};
-ghost use Rattle.ras_settings.specs.Settings.{HasOptionNumber, HasNumbers, IsNumberIn, LacksNumber, LacksNumbers, is_plain};
+ghost use Rattle.ras_settings.specs.Settings.{HasOptionNumber, HasAskedNumbers, IsNumberIn, LacksNumber, LacksNumbers, is_plain};
 ghost use Rattle.ras_settings.specs.Values.{options_asked, text_in};
 
 use crate::values::Values;
@@ -54,7 +54,7 @@ fn number_or(value: Option<&str>, least: u32, most: u32, usual: u32) -> Option<u
 
 /// The numbers of the options, if each value that must be a number of a range is one.
 pub(crate) fn read_numbers(values: Values<'_>) -> Option<Numbers>
-    ensures { MatchOption result (LacksNumbers (options_asked values.entry)) (HasNumbers (options_asked values.entry)) }
+    ensures { MatchOption result (LacksNumbers (options_asked values.entry)) (HasAskedNumbers (options_asked values.entry)) }
 {
     let workers = number_or(values.workers, 1, MAX_WORKERS, USUAL_WORKERS)?;
     let seed = number_or(values.seed, 0, MAX_SEED, USUAL_SEED)?;

@@ -19,7 +19,7 @@ use Rattle.ras_store.specs.declared.change.Change.{Change}
 use Rattle.ras_store.specs.declared.change.Change.TheVariants.{Collection as CollectionChange, Domain as DomainChange, Tile as TileChange}
 use Rattle.ras_store.specs.declared.collection.CollectionInfo.{CollectionInfo}
 use Rattle.ras_store.specs.declared.collection.KeptCollection.{KeptCollection}
-use Rattle.ras_store.specs.Kept.{HasRoomIn, IsEmptyArray, IsLeft, Kept, KeepsRoom, PutsTile, WritesArray, collection_kept, domain_in, domain_kept, is_listed, kept_of, kept_tile, replaced, tile_in, tile_kept}
+use Rattle.ras_store.specs.Kept.{HasRoomIn, IsEmptyArray, IsLeft, Kept, KeepsRoom, PutsTile, WritesArray, collection_kept, domain_in, domain_kept, is_listed, kept_under, kept_tile, replaced, tile_stored, tile_kept}
 
 -- a function of a choice
 chosen : {A B : Type 0} (f : A → B) (b : Bool) (x y : A) → f (cond b x y) ≡ cond b (f x) (f y)
@@ -58,7 +58,7 @@ module _ (old new : KeptCollection) (id : ℕ) (domain : Option (List Interval))
   Way a w = w ≡ record a { domain = domain }
 
   pub domain-replaced : new.info ≡ old.info → WritesArray old.arrays new.arrays id Way → IsSome (get nat_cmp old.arrays id)
-      → (named : List ℕ) (name : LockName) → kept_of (Some new) name ≡ replaced (DomainChange named id domain) name (kept_of (Some old) name)
+      → (named : List ℕ) (name : LockName) → kept_under (Some new) name ≡ replaced (DomainChange named id domain) name (kept_under (Some old) name)
   domain-replaced info writes some named (Collection n) = ap (λ i. option_map collection_kept i) info
   domain-replaced info writes some named (Domain n oid) =
       by_writes Way old.arrays new.arrays id writes
@@ -66,14 +66,14 @@ module _ (old new : KeptCollection) (id : ℕ) (domain : Option (List Interval))
       oid some (λ a w way. ap (λ (x : KeptArray). option_map domain_kept x.domain) way) (λ o. refl)
   domain-replaced info writes some named (Tile n oid place) =
       by_writes Way old.arrays new.arrays id writes
-      (λ b o w. option_map tile_kept (tile_in w place.items) ≡ option_map tile_kept (tile_in o place.items))
-      oid some (λ a w way. ap (λ (x : KeptArray). option_map tile_kept (tile_in (Some x) place.items)) way) (λ o. refl)
+      (λ b o w. option_map tile_kept (tile_stored w place.items) ≡ option_map tile_kept (tile_stored o place.items))
+      oid some (λ a w way. ap (λ (x : KeptArray). option_map tile_kept (tile_stored (Some x) place.items)) way) (λ o. refl)
 
 -- ---- a tile
 
 module _ (old new : KeptCollection) (id : ℕ) (at : ArrayVec ℤ) (tile : Option (Arc TileValue Global)) where
   pub tile-replaced : new.info ≡ old.info → WritesArray old.arrays new.arrays id (PutsTile at.items tile) → IsSome (get nat_cmp old.arrays id)
-      → (named : List ℕ) (name : LockName) → kept_of (Some new) name ≡ replaced (TileChange named id at tile) name (kept_of (Some old) name)
+      → (named : List ℕ) (name : LockName) → kept_under (Some new) name ≡ replaced (TileChange named id at tile) name (kept_under (Some old) name)
   tile-replaced info writes some named (Collection n) = ap (λ i. option_map collection_kept i) info
   tile-replaced info writes some named (Domain n oid) =
       by_writes (PutsTile at.items tile) old.arrays new.arrays id writes
@@ -81,8 +81,8 @@ module _ (old new : KeptCollection) (id : ℕ) (at : ArrayVec ℤ) (tile : Optio
       oid some (λ a w way. ap (λ d. option_map domain_kept d) way.domain) (λ o. refl)
   tile-replaced info writes some named (Tile n oid place) =
       by_writes (PutsTile at.items tile) old.arrays new.arrays id writes
-      (λ b o w. option_map tile_kept (tile_in w place.items)
-      ≡ cond (b && is_at (row_major at.items) place.items) (kept_tile tile) (option_map tile_kept (tile_in o place.items)))
+      (λ b o w. option_map tile_kept (tile_stored w place.items)
+      ≡ cond (b && is_at (row_major at.items) place.items) (kept_tile tile) (option_map tile_kept (tile_stored o place.items)))
       oid some
       (λ a w way. ap kept_tile (way.tiles place.items) ∙ chosen kept_tile (is_at (row_major at.items) place.items) tile (value_at a.tiles.entries place.items))
       (λ o. refl)
@@ -111,9 +111,9 @@ left_domain l (Some a) None left = absurd left
 left_domain l (Some a) (Some w) left = ap (λ d. option_map domain_kept d) left.domain ∙ chosen (λ d. option_map domain_kept d) l a.domain None
 
 left_tile : (l : Bool) (o n : Option KeptArray) (place : List ℤ) → MatchOption o (n ≡ None) (λ a. IsSomeAnd n (IsLeft l a))
-    → option_map tile_kept (tile_in n place) ≡ cond l (option_map tile_kept (tile_in o place)) None
-left_tile true None n place left = ap (λ w. option_map tile_kept (tile_in w place)) left
-left_tile false None n place left = ap (λ w. option_map tile_kept (tile_in w place)) left
+    → option_map tile_kept (tile_stored n place) ≡ cond l (option_map tile_kept (tile_stored o place)) None
+left_tile true None n place left = ap (λ w. option_map tile_kept (tile_stored w place)) left
+left_tile false None n place left = ap (λ w. option_map tile_kept (tile_stored w place)) left
 left_tile l (Some a) None place left = absurd left
 left_tile l (Some a) (Some w) place left = ap kept_tile (left.tiles place) ∙ chosen kept_tile l (value_at a.tiles.entries place) None
 
@@ -133,7 +133,7 @@ module _ (old new : KeptCollection) (info : Option CollectionInfo) where
   Leaves = (q : ℕ) → MatchOption (get nat_cmp old.arrays q) (get nat_cmp new.arrays q ≡ None) (λ a. IsSomeAnd (get nat_cmp new.arrays q) (IsLeft (is_listed info q) a))
 
   pub info-replaced : new.info ≡ info → Leaves → (named : List ℕ) (name : LockName)
-      → kept_of (Some new) name ≡ replaced (CollectionChange named info) name (kept_of (Some old) name)
+      → kept_under (Some new) name ≡ replaced (CollectionChange named info) name (kept_under (Some old) name)
   info-replaced is leaves named (Collection n) = ap (λ i. option_map collection_kept i) is
   info-replaced is leaves named (Domain n oid) =
       left_domain (is_listed info oid) (get nat_cmp old.arrays oid) (get nat_cmp new.arrays oid) (leaves oid)
@@ -156,10 +156,10 @@ made_domain None (Some w) made = ap (λ d. option_map domain_kept d) made.domain
 made_domain (Some a) n made = ap (λ w. option_map domain_kept (domain_in w)) made
 
 made_tile : (o n : Option KeptArray) (place : List ℤ) → MatchOption o (IfSome n IsEmptyArray) (λ a. n ≡ Some a)
-    → option_map tile_kept (tile_in n place) ≡ option_map tile_kept (tile_in o place)
+    → option_map tile_kept (tile_stored n place) ≡ option_map tile_kept (tile_stored o place)
 made_tile None None place made = refl
 made_tile None (Some w) place made = ap (λ es. kept_tile (value_at es place)) made.tiles
-made_tile (Some a) n place made = ap (λ w. option_map tile_kept (tile_in w place)) made
+made_tile (Some a) n place made = ap (λ w. option_map tile_kept (tile_stored w place)) made
 
 made_some : (o n : Option KeptArray) → MatchOption o (IfSome n IsEmptyArray) (λ a. n ≡ Some a) → IsSome o → IsSome n
 made_some None n made has = absurd (cc)
@@ -175,7 +175,7 @@ module _ (old new : KeptCollection) where
   abbrev pub Makes : Type 0
   Makes = (q : ℕ) → MatchOption (get nat_cmp old.arrays q) (IfSome (get nat_cmp new.arrays q) IsEmptyArray) (λ a. get nat_cmp new.arrays q ≡ Some a)
 
-  pub kept-made : new.info ≡ old.info → Makes → (name : LockName) → kept_of (Some new) name ≡ kept_of (Some old) name
+  pub kept-made : new.info ≡ old.info → Makes → (name : LockName) → kept_under (Some new) name ≡ kept_under (Some old) name
   kept-made info makes (Collection n) = ap (λ i. option_map collection_kept i) info
   kept-made info makes (Domain n oid) = made_domain (get nat_cmp old.arrays oid) (get nat_cmp new.arrays oid) (makes oid)
   kept-made info makes (Tile n oid place) = made_tile (get nat_cmp old.arrays oid) (get nat_cmp new.arrays oid) place.items (makes oid)
@@ -186,13 +186,13 @@ module _ (old new : KeptCollection) where
   room-made makes (Tile name oid place) room = made_ready (get nat_cmp old.arrays oid) (get nat_cmp new.arrays oid) place.items (makes oid) room
 
   pub kept-roomier : (id : ℕ) → new.info ≡ old.info → WritesArray old.arrays new.arrays id KeepsRoom → IsSome (get nat_cmp old.arrays id)
-      → (name : LockName) → kept_of (Some new) name ≡ kept_of (Some old) name
+      → (name : LockName) → kept_under (Some new) name ≡ kept_under (Some old) name
   kept-roomier id info writes some (Collection n) = ap (λ i. option_map collection_kept i) info
   kept-roomier id info writes some (Domain n oid) =
       by_writes KeepsRoom old.arrays new.arrays id writes (λ b o w. option_map domain_kept (domain_in w) ≡ option_map domain_kept (domain_in o))
       oid some (λ a w way. ap (λ d. option_map domain_kept d) way.domain) (λ o. refl)
   kept-roomier id info writes some (Tile n oid place) =
-      by_writes KeepsRoom old.arrays new.arrays id writes (λ b o w. option_map tile_kept (tile_in w place.items) ≡ option_map tile_kept (tile_in o place.items))
+      by_writes KeepsRoom old.arrays new.arrays id writes (λ b o w. option_map tile_kept (tile_stored w place.items) ≡ option_map tile_kept (tile_stored o place.items))
       oid some (λ a w way. ap (λ es. kept_tile (value_at es place.items)) way.tiles) (λ o. refl)
 
 -- ---- small steps

@@ -13,7 +13,7 @@ use Rattle.ras_store.specs.declared.change.Change.{Change}
 use Rattle.ras_store.specs.declared.change.Change.TheVariants.{Collection as CollectionChange, Domain as DomainChange, Tile as TileChange}
 use Rattle.ras_store.specs.declared.collection.KeptCollection.{KeptCollection}
 use Rattle.ras_store.specs.declared.contents.Contents.{Contents}
-use Rattle.ras_store.specs.Kept.{HasRoomAt, HasRoomIn, IsEmptyCollection, changed_by, collection_kept, domain_in, domain_kept, kept_in, kept_of, name_changed, replaced, tile_in, tile_kept}
+use Rattle.ras_store.specs.Kept.{HasRoomAt, HasRoomIn, IsEmptyCollection, changed_by, collection_kept, domain_in, domain_kept, kept_in, kept_under, name_changed, replaced, tile_stored, tile_kept}
 use Rattle.ras_store.proofs.Keys.{by_key}
 use Rattle.spec_statements.specs.Locks.{collection_in}
 
@@ -27,19 +27,19 @@ module _ (old new : Contents) (key : List ℕ) (v w : KeptCollection) (found : g
     (updates : UpdatesBy (slice_cmp nat_cmp) (slice_cmp nat_cmp key) old.collections new.collections (Some w)) where
   -- a change of it
   pub kept-changed : (change : Change) → collection_in (name_changed change) ≡ key
-      → ((name : LockName) → kept_of (Some w) name ≡ replaced change name (kept_of (Some v) name))
+      → ((name : LockName) → kept_under (Some w) name ≡ replaced change name (kept_under (Some v) name))
       → (name : LockName) → kept_in new name ≡ changed_by change name (kept_in old name)
   kept-changed change named here name =
       by_key (slice_cmp nat_cmp) exact_bytes old.collections new.collections key v w found updates
-      (λ b o n. kept_of n name ≡ cond b (replaced change name (kept_of o name)) (kept_of o name))
+      (λ b o n. kept_under n name ≡ cond b (replaced change name (kept_under o name)) (kept_under o name))
       (collection_in name) (here name) (λ o. refl)
       ∙ ap (λ k. cond (is_at (slice_cmp nat_cmp k) (collection_in name)) (replaced change name (kept_in old name)) (kept_in old name)) (sym named)
 
   -- nothing changed
-  pub kept-same : ((name : LockName) → kept_of (Some w) name ≡ kept_of (Some v) name) → (name : LockName) → kept_in new name ≡ kept_in old name
+  pub kept-same : ((name : LockName) → kept_under (Some w) name ≡ kept_under (Some v) name) → (name : LockName) → kept_in new name ≡ kept_in old name
   kept-same here name =
       by_key (slice_cmp nat_cmp) exact_bytes old.collections new.collections key v w found updates
-      (λ b o n. kept_of n name ≡ kept_of o name) (collection_in name) (here name) (λ o. refl)
+      (λ b o n. kept_under n name ≡ kept_under o name) (collection_in name) (here name) (λ o. refl)
 
   -- what had room has it still
   pub room-same : ((other : LockName) → HasRoomIn (Some v) other → HasRoomIn (Some w) other) → (other : LockName) → HasRoomAt old other → HasRoomAt new other
@@ -55,14 +55,14 @@ module _ (old new : Contents) (key : List ℕ) (v w : KeptCollection) (found : g
 
 -- ---- room made for one
 
-made_kept : (o n : Option KeptCollection) → MatchOption o (IfSome n IsEmptyCollection) (λ c. n ≡ Some c) → (name : LockName) → kept_of n name ≡ kept_of o name
+made_kept : (o n : Option KeptCollection) → MatchOption o (IfSome n IsEmptyCollection) (λ c. n ≡ Some c) → (name : LockName) → kept_under n name ≡ kept_under o name
 made_kept None None made (Collection m) = refl
 made_kept None None made (Domain m oid) = refl
 made_kept None None made (Tile m oid place) = refl
 made_kept None (Some w) made (Collection m) = ap (λ i. option_map collection_kept i) made.info
 made_kept None (Some w) made (Domain m oid) = ap (λ es. option_map domain_kept (domain_in (lookup (is_at (nat_cmp oid)) es))) made.arrays
-made_kept None (Some w) made (Tile m oid place) = ap (λ es. option_map tile_kept (tile_in (lookup (is_at (nat_cmp oid)) es) place.items)) made.arrays
-made_kept (Some c) n made name = ap (λ o. kept_of o name) made
+made_kept None (Some w) made (Tile m oid place) = ap (λ es. option_map tile_kept (tile_stored (lookup (is_at (nat_cmp oid)) es) place.items)) made.arrays
+made_kept (Some c) n made name = ap (λ o. kept_under o name) made
 
 made_room : (o n : Option KeptCollection) → MatchOption o (IfSome n IsEmptyCollection) (λ c. n ≡ Some c) → (other : LockName) → HasRoomIn o other → HasRoomIn n other
 made_room None n made other room = absurd room

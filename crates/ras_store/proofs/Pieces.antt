@@ -28,7 +28,7 @@ use Rattle.ras_store.specs.declared.change.Change.{Change}
 use Rattle.ras_store.specs.declared.collection.CollectionInfo.{CollectionInfo}
 use Rattle.ras_store.specs.declared.piece.Piece.{Piece}
 use Rattle.ras_store.specs.Kept.{Kept, changed_by, changed_by_all, collection_kept, domain_kept, is_listed, kept_tile}
-use Rattle.ras_store.specs.Piece.{IsTaken, collection_entry, domain_entry, is_same_name, piece_kept, tile_entry}
+use Rattle.ras_store.specs.Piece.{IsTaken, collection_entry, domain_entry, is_same_lock_name, piece_kept, tile_entry}
 use Rattle.ras_store.proofs.Listed.{by_name_total, changed_by_all-push}
 use Rattle.spec_statements.specs.Locks.{Lock}
 use Rattle.spec_statements.specs.ReachLaw.{Names}
@@ -42,7 +42,7 @@ both_true false b is = absurd (cc)
 all_three : (a b c : Bool) → a ≡ true → b ≡ true → c ≡ true → (a && (b && c)) ≡ true
 all_three a b c x y z = ap (λ t. t && (b && c)) x ∙ ap (λ t. t && c) y ∙ z
 
-same-itself : (name : LockName) → is_same_name name name ≡ true
+same-itself : (name : LockName) → is_same_lock_name name name ≡ true
 same-itself (Collection n) = ap is_eq (tied_itself by_name_total n)
 same-itself (Domain n oid) = ap (λ r. is_eq r && is_eq (nat_cmp oid oid)) (tied_itself by_name_total n) ∙ ap is_eq (tied_itself nat_cmp_total oid)
 same-itself (Tile n oid place) =
@@ -52,7 +52,7 @@ same-itself (Tile n oid place) =
 same_place : (at place : ArrayVec ℤ) → at.items ≡ place.items → at ≡ place
 same_place at place is = let point : List ℤ → ArrayVec ℤ = λ xs. record { items = xs } in ap point is
 
-pub same-exact : (name other : LockName) → is_same_name name other ≡ true → name ≡ other
+pub same-exact : (name other : LockName) → is_same_lock_name name other ≡ true → name ≡ other
 same-exact (Collection n) (Collection m) is = ap Collection (tells_apart exact_bytes n m is)
 same-exact (Domain n id) (Domain m oid) is =
     let both = both_true (is_at (slice_cmp nat_cmp n) m) (is_at (nat_cmp id) oid) is in
@@ -71,21 +71,21 @@ same-exact (Tile n id at) (Domain m oid) is = absurd (cc)
 
 -- whether a list names it
 abbrev pub is_named : List Lock → LockName → Bool
-is_named list name = list_any (λ lock. is_same_name lock.0 name) list
+is_named list name = list_any (λ lock. is_same_lock_name lock.0 name) list
 
 -- a test that one element passes
 passed : {X : Type 0} (test : X → Bool) (xs : List X) (x : X) → Contains xs x → test x ≡ true → list_any test xs ≡ true
 passed test xs x has is = list_any_at test xs has.0 x has.1 (ap test has.2 ∙ is)
 
 pub named_there : (list : List Lock) (name : LockName) → Names list name → is_named list name ≡ true
-named_there list name names = passed (λ lock. is_same_name lock.0 name) list (name, names.0) names.1 (same-itself name)
+named_there list name names = passed (λ lock. is_same_lock_name lock.0 name) list (name, names.0) names.1 (same-itself name)
 
 pub named_not : (list : List Lock) (name : LockName) → ¬ Names list name → is_named list name ≡ false
 named_not [] name none = refl
 named_not (lock ∷ list) name none =
-    at (is_same_name lock.0 name) refl (named_not list name (λ names. none (names.0, Contains-there (name, names.0) lock list names.1)))
+    at (is_same_lock_name lock.0 name) refl (named_not list name (λ names. none (names.0, Contains-there (name, names.0) lock list names.1)))
   where
-    at : (b : Bool) → is_same_name lock.0 name ≡ b → is_named list name ≡ false → (b || is_named list name) ≡ false
+    at : (b : Bool) → is_same_lock_name lock.0 name ≡ b → is_named list name ≡ false → (b || is_named list name) ≡ false
     at true is rest =
         absurd (none (lock.1, subst (λ n. Contains (lock ∷ list) (n, lock.1)) (same-exact lock.0 name is) (Contains-here lock list)))
     at false is rest = rest
@@ -110,7 +110,7 @@ module _ (old new : Piece) where
   pub taken-collection : (n : List ℕ) (info : Option CollectionInfo) (kept : Option Kept)
       → new.collections.items ≡ old.collections.items ++ (n, info) ∷ [] → new.domains.items ≡ old.domains.items → new.tiles.items ≡ old.tiles.items
       → option_map collection_kept info ≡ kept → (other : LockName)
-      → IsTaken kept (is_same_name (Collection n) other) (piece_kept old other) (piece_kept new other)
+      → IsTaken kept (is_same_lock_name (Collection n) other) (piece_kept old other) (piece_kept new other)
   taken-collection n info kept more domains tiles is (Collection m) =
       inl
       (ap (λ es. changed_by_all (map collection_entry es) (Collection m) None) more
@@ -122,7 +122,7 @@ module _ (old new : Piece) where
   pub taken-domain : (n : List ℕ) (id : ℕ) (domain : List Interval) (kept : Option Kept)
       → new.domains.items ≡ old.domains.items ++ (n, id, domain) ∷ [] → new.collections.items ≡ old.collections.items → new.tiles.items ≡ old.tiles.items
       → Some (domain_kept domain) ≡ kept → (other : LockName)
-      → IsTaken kept (is_same_name (Domain n id) other) (piece_kept old other) (piece_kept new other)
+      → IsTaken kept (is_same_lock_name (Domain n id) other) (piece_kept old other) (piece_kept new other)
   taken-domain n id domain kept more collections tiles is (Domain m oid) =
       inl
       (ap (λ es. changed_by_all (map domain_entry es) (Domain m oid) None) more
@@ -135,13 +135,13 @@ module _ (old new : Piece) where
   pub taken-tile : (n : List ℕ) (id : ℕ) (at : ArrayVec ℤ) (tile : Arc TileValue Global) (kept : Option Kept)
       → new.tiles.items ≡ old.tiles.items ++ (n, id, at, tile) ∷ [] → new.collections.items ≡ old.collections.items → new.domains.items ≡ old.domains.items
       → kept_tile (Some tile) ≡ kept → (other : LockName)
-      → IsTaken kept (is_same_name (Tile n id at) other) (piece_kept old other) (piece_kept new other)
+      → IsTaken kept (is_same_lock_name (Tile n id at) other) (piece_kept old other) (piece_kept new other)
   taken-tile n id at tile kept more collections domains is (Tile m oid place) =
       inl
       (ap (λ es. changed_by_all (map tile_entry es) (Tile m oid place) None) more
       ∙ entries-push tile_entry old.tiles.items (n, id, at, tile) (Tile m oid place) None
       ∙ joined (is_at (slice_cmp nat_cmp n) m) (is_at (nat_cmp id) oid && is_at (row_major at.items) place.items) (kept_tile (Some tile)) (piece_kept old (Tile m oid place))
-      ∙ ap (λ k. cond (is_same_name (Tile n id at) (Tile m oid place)) k (piece_kept old (Tile m oid place))) is)
+      ∙ ap (λ k. cond (is_same_lock_name (Tile n id at) (Tile m oid place)) k (piece_kept old (Tile m oid place))) is)
   taken-tile n id at tile kept more collections domains is (Collection m) = inl (ap (λ es. changed_by_all (map collection_entry es) (Collection m) None) collections)
   taken-tile n id at tile kept more collections domains is (Domain m oid) = inl (ap (λ es. changed_by_all (map domain_entry es) (Domain m oid) None) domains)
 
@@ -160,14 +160,14 @@ taken_more false false whole kept old new was same (inr both) = both.1 ∙ was
 pub one-more-taken : (list : List Lock) (i : ℕ) (lock : LockName) (mode : Mode) (kept : LockName → Option Kept) (old new : LockName → Option Kept)
     → i < length list → slice_get list i ≡ Some (lock, mode)
     → ((name : LockName) → old name ≡ cond (is_named (take i list) name) (kept name) None)
-    → ((name : LockName) → IsTaken (kept lock) (is_same_name lock name) (old name) (new name))
+    → ((name : LockName) → IsTaken (kept lock) (is_same_lock_name lock name) (old name) (new name))
     → (name : LockName) → new name ≡ cond (is_named (take (i + 1) list) name) (kept name) None
 one-more-taken list i lock mode kept old new within at was taken name =
-    taken_more (is_named (take i list) name) (is_same_name lock name) (kept name) (kept lock) (old name) (new name) (was name)
+    taken_more (is_named (take i list) name) (is_same_lock_name lock name) (kept name) (kept lock) (old name) (new name) (was name)
     (λ is. ap kept (same-exact lock name is)) (taken name)
     ∙ ap (λ b. cond (is_named (take i list) name || b) (kept name) None)
-    (ap (λ (l : Lock). is_same_name l.0 name) (sym (get_or_from_slice_get list i (lock, mode) (lock, mode) at)))
-    ∙ ap (λ b. cond b (kept name) None) (sym (list_any_more (λ (l : Lock). is_same_name l.0 name) list i (lock, mode) within))
+    (ap (λ (l : Lock). is_same_lock_name l.0 name) (sym (get_or_from_slice_get list i (lock, mode) (lock, mode) at)))
+    ∙ ap (λ b. cond b (kept name) None) (sym (list_any_more (λ (l : Lock). is_same_lock_name l.0 name) list i (lock, mode) within))
 
 -- ---- put where nothing is kept
 

@@ -11,12 +11,12 @@ use Rattle.std.proofs.lemmas.Map.Views.{Contains-from_lookup, tells_apart}
 use Rattle.law_lists.proofs.Each.{slice_get-All}
 use Rattle.ras_domain.specs.declared.lock.LockName.TheVariants.{Tile}
 use Rattle.ras_domain.specs.Region.{IsIn}
-use Rattle.ras_grid.specs.Grid.{Meets, tile_in as part_in}
+use Rattle.ras_grid.specs.Grid.{Meets, tile_stored as part_in}
 use Rattle.ras_syntax.specs.declared.types.SetType.{SetType}
 use Rattle.ras_tile.specs.Tile.{IsTile, TileValue, tile_cell_at}
 use Rattle.ras_store.specs.declared.store.Store.{Store}
 use Rattle.ras_store.specs.Databases.{IsArrayThere, Keeps, Place, holding_kept}
-use Rattle.ras_store.specs.Kept.{array_in, tile_in, tile_kept}
+use Rattle.ras_store.specs.Kept.{array_in, tile_stored, tile_kept}
 use Rattle.ras_store.specs.Store.{store_kept}
 use Rattle.ras_store.proofs.KeptTiles.{tile-box, tile-cells, tile-meets}
 use Rattle.spec_expressions.specs.Database.{Array, Database, stored_at}
@@ -57,7 +57,7 @@ module _ (types : List SetType) (store : Store) (database : Database) (name : Li
       ∙ ap (λ o. holding_of (tile_seen there.collection.set_type (filter (λ entry. lies_at (extents_in o) place.items entry.0) array.stored))) there.set_type
 
   tile_there : Option TileValue
-  tile_there = tile_in (array_in (get (slice_cmp nat_cmp) store.contents.collections name) oid) place.items
+  tile_there = tile_stored (array_in (get (slice_cmp nat_cmp) store.contents.collections name) oid) place.items
 
   some_kept : (t : Option TileValue) → IsSome t ↔ IsSome (option_map tile_kept t)
   some_kept None = (λ some. some, λ some. some)

@@ -40,22 +40,22 @@ abbrev pub domain_in : Option KeptArray → Option (List Interval)
 domain_in None = None
 domain_in (Some array) = array.domain
 
-abbrev pub tile_in : Option KeptArray → List ℤ → Option TileValue
-tile_in None place = None
-tile_in (Some array) place = option_map arc_value (value_at array.tiles.entries place)
+abbrev pub tile_stored : Option KeptArray → List ℤ → Option TileValue
+tile_stored None place = None
+tile_stored (Some array) place = option_map arc_value (value_at array.tiles.entries place)
 
 abbrev pub kept_tile : Option (Arc TileValue Global) → Option Kept
 kept_tile tile = option_map tile_kept (option_map arc_value tile)
 
 -- what is kept of a collection under a name of it
-abbrev pub kept_of : Option KeptCollection → LockName → Option Kept
-kept_of collection (Collection name) = option_map collection_kept (info_in collection)
-kept_of collection (Domain name oid) = option_map domain_kept (domain_in (array_in collection oid))
-kept_of collection (Tile name oid place) = option_map tile_kept (tile_in (array_in collection oid) place.items)
+abbrev pub kept_under : Option KeptCollection → LockName → Option Kept
+kept_under collection (Collection name) = option_map collection_kept (info_in collection)
+kept_under collection (Domain name oid) = option_map domain_kept (domain_in (array_in collection oid))
+kept_under collection (Tile name oid place) = option_map tile_kept (tile_stored (array_in collection oid) place.items)
 
 -- what is kept under a name, none where nothing is
 abbrev pub kept_in : Contents → LockName → Option Kept
-kept_in contents name = kept_of (get (slice_cmp nat_cmp) contents.collections (collection_in name)) name
+kept_in contents name = kept_under (get (slice_cmp nat_cmp) contents.collections (collection_in name)) name
 
 -- ---- changes
 
@@ -159,7 +159,7 @@ pub record WritesArray (old new : BTreeMap ℕ KeptArray) (oid : ℕ) (Way : Kep
 -- the same domain, and the same tile at each place
 pub record IsSameArray (one other : KeptArray) : Type 0 where
   pub domain : other.domain ≡ one.domain
-  pub tiles : (place : List ℤ) → tile_in (Some other) place ≡ tile_in (Some one) place
+  pub tiles : (place : List ℤ) → tile_stored (Some other) place ≡ tile_stored (Some one) place
 
 -- the same information, and the same arrays
 pub record IsSameCollection (one other : KeptCollection) : Type 0 where

@@ -37,12 +37,12 @@ piece_kept piece (Tile name oid place) = changed_by_all (map tile_entry piece.ti
 -- ---- taking, for the contracts of this crate alone
 
 -- whether two names are the same
-abbrev pub is_same_name : LockName → LockName → Bool
-is_same_name (Collection name) (Collection other) = is_at (slice_cmp nat_cmp name) other
-is_same_name (Domain name id) (Domain other oid) = is_at (slice_cmp nat_cmp name) other && is_at (nat_cmp id) oid
-is_same_name (Tile name id at) (Tile other oid place) =
+abbrev pub is_same_lock_name : LockName → LockName → Bool
+is_same_lock_name (Collection name) (Collection other) = is_at (slice_cmp nat_cmp name) other
+is_same_lock_name (Domain name id) (Domain other oid) = is_at (slice_cmp nat_cmp name) other && is_at (nat_cmp id) oid
+is_same_lock_name (Tile name id at) (Tile other oid place) =
     is_at (slice_cmp nat_cmp name) other && (is_at (nat_cmp id) oid && is_at (row_major at.items) place.items)
-is_same_name _ _ = false
+is_same_lock_name _ _ = false
 
 -- what was kept under one name is held under it now, and the rest as before. Nothing is added where nothing was kept
 abbrev pub IsTaken : Option Kept → Bool → Option Kept → Option Kept → Type 0

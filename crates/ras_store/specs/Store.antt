@@ -10,5 +10,5 @@ abbrev pub store_kept : Store → LockName → Option Kept
 store_kept store name = kept_in store.contents name
 
 -- applying these changes takes no memory
-abbrev pub HasRoom : Store → List Change → Type 0
-HasRoom store changes = All (HasRoomFor store.contents) changes
+abbrev pub HasRoomForAll : Store → List Change → Type 0
+HasRoomForAll store changes = All (HasRoomFor store.contents) changes

@@ -4,7 +4,7 @@ ghost use Rattle.std.specs.Ordering.{nat_cmp};
 ghost use Rattle.std.specs.BTreeMap.{get};
 ghost use Rattle.ras_domain.specs.declared.lock.LockName.{LockName};
 ghost use Rattle.ras_index.specs.Index.{IsReady};
-ghost use Rattle.ras_store.specs.Kept.{HasRoomIn, IsEmptyArray, IsEmptyCollection, IsLeft, IsSameArray, IsSameCollection, KeepsRoom, PutsTile, WritesArray, is_listed, kept_of, name_changed, replaced};
+ghost use Rattle.ras_store.specs.Kept.{HasRoomIn, IsEmptyArray, IsEmptyCollection, IsLeft, IsSameArray, IsSameCollection, KeepsRoom, PutsTile, WritesArray, is_listed, kept_under, name_changed, replaced};
 
 use crate::array::KeptArray;
 use crate::change::Change;
@@ -72,7 +72,7 @@ impl KeptCollection {
     /// Applies a change of this collection. It takes no memory.
     pub(crate) fn apply(&mut self, change: Change)
         requires { HasRoomIn (Some self.old) (name_changed change) }
-        ensures changed { (name : LockName) → kept_of (Some self.new) name ≡ replaced change name (kept_of (Some self.old) name) }
+        ensures changed { (name : LockName) → kept_under (Some self.new) name ≡ replaced change name (kept_under (Some self.old) name) }
         ensures room { (other : LockName) → HasRoomIn (Some self.old) other → HasRoomIn (Some self.new) other }
     {
         match change {
@@ -103,7 +103,7 @@ impl KeptCollection {
         oid: u64,
         place: &Point,
     ) -> Result<(), AllocError>
-        ensures kept { (name : LockName) → kept_of (Some self.new) name ≡ kept_of (Some self.old) name }
+        ensures kept { (name : LockName) → kept_under (Some self.new) name ≡ kept_under (Some self.old) name }
         ensures room { (other : LockName) → HasRoomIn (Some self.old) other → HasRoomIn (Some self.new) other }
         ensures made { OnOk result (IsSomeAnd (get nat_cmp self.new.arrays oid) (λ array. IsReady array.tiles place.now.items)) }
     {

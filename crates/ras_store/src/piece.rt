@@ -2,7 +2,7 @@
 ghost use Rattle.std.specs.Prelude.{◌≡◌, None, All, map, IfOk, OnOk};
 ghost use Rattle.ras_domain.specs.declared.lock.LockName.{LockName};
 ghost use Rattle.ras_store.specs.Kept.{HasRoomAt, HasRoomFor, changed_by_all, kept_in};
-ghost use Rattle.ras_store.specs.Piece.{IsTaken, collection_entry, domain_entry, is_same_name, piece_kept, tile_entry};
+ghost use Rattle.ras_store.specs.Piece.{IsTaken, collection_entry, domain_entry, is_same_lock_name, piece_kept, tile_entry};
 ghost use Rattle.spec_statements.specs.ReachLaw.{Names};
 
 use crate::array::copy_of;
@@ -60,7 +60,7 @@ fn take(
     lock: &LockName,
     piece: &mut Piece,
 ) -> Result<(), AllocError>
-    ensures { OnOk result ((other : LockName) → IsTaken (kept_in contents.now lock.now) (is_same_name lock.now other)
+    ensures { OnOk result ((other : LockName) → IsTaken (kept_in contents.now lock.now) (is_same_lock_name lock.now other)
         (piece_kept piece.old other) (piece_kept piece.new other)) }
 {
     match lock {
@@ -78,7 +78,7 @@ fn take_collection(
     piece: &mut Piece,
 ) -> Result<(), AllocError>
     ensures { OnOk result ((other : LockName) → IsTaken (kept_in contents.now (LockName.Collection name.now))
-        (is_same_name (LockName.Collection name.now) other) (piece_kept piece.old other) (piece_kept piece.new other)) }
+        (is_same_lock_name (LockName.Collection name.now) other) (piece_kept piece.old other) (piece_kept piece.new other)) }
 {
     let info = match contents.info(name) {
         Some(info) => Some(info.try_clone(alloc)?),
@@ -98,7 +98,7 @@ fn take_domain(
     piece: &mut Piece,
 ) -> Result<(), AllocError>
     ensures { OnOk result ((other : LockName) → IsTaken (kept_in contents.now (LockName.Domain name.now oid))
-        (is_same_name (LockName.Domain name.now oid) other) (piece_kept piece.old other) (piece_kept piece.new other)) }
+        (is_same_lock_name (LockName.Domain name.now oid) other) (piece_kept piece.old other) (piece_kept piece.new other)) }
 {
     match contents.domain(name, oid) {
         Some(domain) => {
@@ -121,7 +121,7 @@ fn take_tile(
     piece: &mut Piece,
 ) -> Result<(), AllocError>
     ensures { OnOk result ((other : LockName) → IsTaken (kept_in contents.now (LockName.Tile name.now oid place.now))
-        (is_same_name (LockName.Tile name.now oid place.now) other) (piece_kept piece.old other) (piece_kept piece.new other)) }
+        (is_same_lock_name (LockName.Tile name.now oid place.now) other) (piece_kept piece.old other) (piece_kept piece.new other)) }
 {
     match contents.tile(name, oid, place) {
         Some(tile) => {

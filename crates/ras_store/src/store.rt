@@ -8,7 +8,7 @@ ghost use Rattle.ras_store.specs.declared.change.Change.{Change};
 ghost use Rattle.spec_statements.specs.ReachLaw.{Names};
 ghost use Rattle.ras_store.specs.Kept.{changed_by_all, collection_kept, domain_kept, kept_tile};
 ghost use Rattle.ras_store.specs.Piece.{piece_kept};
-ghost use Rattle.ras_store.specs.Store.{HasRoom, store_kept};
+ghost use Rattle.ras_store.specs.Store.{HasRoomForAll, store_kept};
 
 use crate::array::copy_of;
 use crate::change::Changes;
@@ -91,17 +91,17 @@ impl Store {
     /// wanting, the same is kept as before.
     pub fn reserve_for(&mut self, alloc: Global, changes: &Changes) -> Result<(), AllocError>
         ensures kept { (name : LockName) → store_kept self.new name ≡ store_kept self.old name }
-        ensures made { OnOk result (HasRoom self.new changes.now) }
-        ensures room { (other : List Change) → HasRoom self.old other → HasRoom self.new other }
+        ensures made { OnOk result (HasRoomForAll self.new changes.now) }
+        ensures room { (other : List Change) → HasRoomForAll self.old other → HasRoomForAll self.new other }
     {
         self.contents.reserve_all(alloc, changes.items())
     }
 
     /// Applies changes for which room was made, in their order. It takes no memory.
     pub fn apply_prepared(&mut self, changes: Changes)
-        requires { HasRoom self.old changes }
+        requires { HasRoomForAll self.old changes }
         ensures changed { (name : LockName) → store_kept self.new name ≡ changed_by_all changes name (store_kept self.old name) }
-        ensures room { (other : List Change) → HasRoom self.old other → HasRoom self.new other }
+        ensures room { (other : List Change) → HasRoomForAll self.old other → HasRoomForAll self.new other }
     {
         self.contents.apply_all(changes.into_vec());
     }

@@ -23,7 +23,7 @@ pub use expr::{Axis, CellsFold, DomainExpr, Expr, ExprForm, FoldOp, Part};
 pub use faults::{CheckFault, ShapeFault, SyntaxFault};
 pub use limits::{
     MAX_FIRST_IDENTIFIER, MAX_IDENTIFIER, MAX_LOCKS, MAX_REPLY_CELLS, MAX_RETRIES, MAX_ROWS,
-    MAX_STORED_NUMBERS, MAX_TILES, MAX_TYPES, MAX_WEIGHT,
+    MAX_SESSIONS, MAX_STATEMENTS, MAX_STORED_NUMBERS, MAX_TILES, MAX_TYPES, MAX_WEIGHT,
 };
 pub use row_list::RowList;
 pub use span::{Span, Spanned};

@@ -4,6 +4,12 @@
 /// The most types that a workload may declare.
 pub const MAX_TYPES: u64 = 256;
 
+/// The most sessions of a workload.
+pub const MAX_SESSIONS: u64 = 64;
+
+/// The most statements of a session, and of the setup.
+pub const MAX_STATEMENTS: u64 = 10_000;
+
 /// The most that the tokens of a statement may weigh together. It bounds how deep a statement nests,
 /// and so the depth of every recursion over its tree.
 pub const MAX_WEIGHT: u64 = 127;

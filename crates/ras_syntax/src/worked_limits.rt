@@ -2,7 +2,7 @@
 ghost use Rattle.std.specs.Prelude.{◌≡◌, ◌^◌, ◌-◌};
 ghost use Rattle.ras_cells.specs.declared.TheConstants.{MAX_COMPONENTS, MAX_NULLS};
 ghost use Rattle.ras_domain.specs.declared.TheConstants.{MAX_AXES, MAX_POINTS, MAX_TILE_CELLS};
-ghost use Rattle.ras_syntax.specs.declared.limits.TheConstants.{MAX_FIRST_IDENTIFIER, MAX_IDENTIFIER, MAX_LOCKS, MAX_REPLY_CELLS, MAX_RETRIES, MAX_ROWS, MAX_STORED_NUMBERS, MAX_TILES, MAX_TYPES, MAX_WEIGHT};
+ghost use Rattle.ras_syntax.specs.declared.limits.TheConstants.{MAX_FIRST_IDENTIFIER, MAX_IDENTIFIER, MAX_LOCKS, MAX_REPLY_CELLS, MAX_RETRIES, MAX_ROWS, MAX_SESSIONS, MAX_STATEMENTS, MAX_STORED_NUMBERS, MAX_TILES, MAX_TYPES, MAX_WEIGHT};
 
 /// Types, and what arrays and tiles may have.
 pub fn limits_of_arrays()
@@ -14,6 +14,12 @@ pub fn limits_of_arrays()
     ensures stored_numbers { MAX_STORED_NUMBERS ≡ 2 ^ 24 }
     ensures tiles { MAX_TILES ≡ 65536 }
     ensures tile_cells { MAX_TILE_CELLS ≡ 65536 }
+{}
+
+/// What workloads may have.
+pub fn limits_of_workloads()
+    ensures sessions { MAX_SESSIONS ≡ 64 }
+    ensures statements { MAX_STATEMENTS ≡ 10000 }
 {}
 
 /// What statements may have.

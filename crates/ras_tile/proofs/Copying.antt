@@ -7,7 +7,7 @@ use Rattle.ras_domain.specs.Region.{IsIn, points_of, place_in_rows}
 use Rattle.ras_domain.proofs.Points.{length-from_IsIn, Contains-IsIn}
 use Rattle.ras_domain.proofs.RowOrder.{place_in_rows-at}
 use Rattle.ras_tile.specs.Stored.{along}
-use Rattle.ras_tile.specs.Planes.{number_at}
+use Rattle.ras_tile.specs.Planes.{listed_number}
 use Rattle.ras_tile.proofs.RowPlaces.{slice_get-place, place-within, place-along, IsIn-along, row_or_apart}
 
 -- how many points of the box come before the next one
@@ -28,9 +28,9 @@ pub record IsCopying (to_box from_box region : List Interval) (old : List ℤ) (
   pub long : length new ≡ length old
   pub next_is : next ≡ slice_get (points_of region) (done_of region next)
   pub copied : (q : List ℤ) → IsIn q region → place_in_rows region q < done_of region next
-      → number_at new (place_in_rows to_box q) ≡ source (place_in_rows from_box q)
+      → listed_number new (place_in_rows to_box q) ≡ source (place_in_rows from_box q)
   pub others : (q : List ℤ) → IsIn q to_box → (IsIn q region → done_of region next ≤ place_in_rows region q)
-      → number_at new (place_in_rows to_box q) ≡ number_at old (place_in_rows to_box q)
+      → listed_number new (place_in_rows to_box q) ≡ listed_number old (place_in_rows to_box q)
 
 -- before the first point
 pub IsCopying-first : {to_box from_box region : List Interval} {source : ℕ → ℤ} {old p : List ℤ} → slice_get (points_of region) 0 ≡ Some p
@@ -75,8 +75,8 @@ pub IsCopying-more : {to_box from_box region : List Interval} {source : ℕ → 
     → IsIn (along p k) region
     → ((place : ℕ) → slice_get (points_of region) place ≡ Some (along p k) → next ≡ slice_get (points_of region) (place + 1))
     → length newer ≡ length new
-    → ((j : ℕ) → j < k + 1 → number_at newer (place_in_rows to_box p + j) ≡ source (place_in_rows from_box p + j))
-    → ((j : ℕ) → (j < place_in_rows to_box p) ⊎ (place_in_rows to_box p + (k + 1) ≤ j) → number_at newer j ≡ number_at new j)
+    → ((j : ℕ) → j < k + 1 → listed_number newer (place_in_rows to_box p + j) ≡ source (place_in_rows from_box p + j))
+    → ((j : ℕ) → (j < place_in_rows to_box p) ⊎ (place_in_rows to_box p + (k + 1) ≤ j) → listed_number newer j ≡ listed_number new j)
     → (IsCopying to_box from_box region old source newer next) × (done_of region next ≡ place_in_rows region p + (k + 1))
 IsCopying-more {to_box = to_box} {from_box = from_box} {region = region} {source = source} {p = p} newer k next h some to_covers from_covers end after long written kept =
     let inside : IsIn p region = IsCopying-within h in
@@ -100,7 +100,7 @@ IsCopying-more {to_box = to_box} {from_box = from_box} {region = region} {source
         copied = λ q here less.
             elim (row_or_apart to_box p q k to_axes (to_covers p inside) (to_covers (along p k) end) (to_covers q here)) [
               | inl row ↦
-                  ap (number_at newer) (ap (place_in_rows to_box) row.2 ∙ to_place row.0 row.1)
+                  ap (listed_number newer) (ap (place_in_rows to_box) row.2 ∙ to_place row.0 row.1)
                   ∙ written row.0 row.1
                   ∙ ap source (sym (ap (place_in_rows from_box) row.2 ∙ from_place row.0 row.1))
               | inr apart ↦
@@ -126,9 +126,9 @@ IsCopying-more {to_box = to_box} {from_box = from_box} {region = region} {source
 
 -- after the last point
 pub IsCopying-copied : {to_box from_box region : List Interval} {source : ℕ → ℤ} {old new : List ℤ} → IsCopying to_box from_box region old source new None
-    → (q : List ℤ) → IsIn q region → number_at new (place_in_rows to_box q) ≡ source (place_in_rows from_box q)
+    → (q : List ℤ) → IsIn q region → listed_number new (place_in_rows to_box q) ≡ source (place_in_rows from_box q)
 IsCopying-copied {region = region} h q inside = h.copied q inside (place-within region q inside)
 
 pub IsCopying-others : {to_box from_box region : List Interval} {source : ℕ → ℤ} {old new : List ℤ} → IsCopying to_box from_box region old source new None
-    → (q : List ℤ) → IsIn q to_box → (IsIn q region → ⊥) → number_at new (place_in_rows to_box q) ≡ number_at old (place_in_rows to_box q)
+    → (q : List ℤ) → IsIn q to_box → (IsIn q region → ⊥) → listed_number new (place_in_rows to_box q) ≡ listed_number old (place_in_rows to_box q)
 IsCopying-others h q inside out = h.others q inside (λ within. absurd (out within))

@@ -15,7 +15,7 @@ use Rattle.ras_domain.proofs.Points.{Contains-IsIn}
 use Rattle.ras_domain.proofs.RowOrder.{place_in_rows-at}
 use Rattle.ras_tile.proofs.RowPlaces.{place-within, place-one}
 use Rattle.ras_tile.proofs.Cells.{length-cells_in, slice_get-cells_in, All-cells_in, cells_in-set, cells_in-equal}
-use Rattle.ras_tile.proofs.Cells.{cells_in-same, length-cell_in, AreEqual-first, AreEqual-from_first, cell_in-uniform, get_or-cells_in}
+use Rattle.ras_tile.proofs.Cells.{cells_in-same, length-cell_of_planes, AreEqual-first, AreEqual-from_first, cell_of_planes-uniform, get_or-cells_in}
 use Rattle.ras_cells.specs.Atoms.{AreInRange}
 use Rattle.ras_cells.proofs.Ranges.{length-AreInRange}
 use Rattle.ras_cells.specs.declared.run.Run.{Run}
@@ -23,7 +23,7 @@ use Rattle.ras_cells.specs.declared.run.Run.TheVariants.{Uniform, U8, I8, U16, I
 use Rattle.ras_tile.specs.Cells.{AreEqual}
 use Rattle.ras_tile.specs.Lent.{IsUniform, IsPackedAs}
 use Rattle.ras_tile.specs.declared.plane.Plane.{Plane}
-use Rattle.ras_tile.specs.Planes.{cell_in, cells_in, HasNumbers, IsUniformPlane, IsPlainPlane, IsPackedPlane, ArePlanes}
+use Rattle.ras_tile.specs.Planes.{cell_of_planes, cells_in, HasNumbers, IsUniformPlane, IsPlainPlane, IsPackedPlane, ArePlanes}
 use Rattle.ras_tile.specs.Stored.{IsStored, AreKept}
 use Rattle.ras_tile.specs.Tile.{TileValue, IsTile, tile_cell_at, filled_tile, packed_tile}
 
@@ -49,7 +49,7 @@ IsTile-stored box atoms planes writable stored = record {
 
 -- the cell at a point of the box
 pub cell_at-stored : (box : List Interval) (planes : List Plane) (p : List ℤ) → IsIn p box
-    → slice_get (cells_in planes (length (points_of box))) (place_in_rows box p) ≡ Some (cell_in planes (place_in_rows box p))
+    → slice_get (cells_in planes (length (points_of box))) (place_in_rows box p) ≡ Some (cell_of_planes planes (place_in_rows box p))
 cell_at-stored box planes p inside =
     slice_get-cells_in planes (length (points_of box)) (place_in_rows box p) (place-within box p inside)
 
@@ -81,13 +81,13 @@ IsStored-packed_planes box atoms planes n region few narrow long all whole kept 
 
 -- planes in the widths of their atoms, of cells that aren't all equal
 pub AreKept-narrowed : (n : ℕ) (atoms : List Atom) (source copies : List Plane) → 0 < n → length source ≡ length atoms
-    → (((k : ℕ) → k < n → cell_in source k ≡ cell_in source 0) → ⊥)
-    → ArePlanes n (λ i plane. IsPackedPlane (get_or atoms i Wide) plane) (cell_in source) copies → AreKept false n atoms copies
+    → (((k : ℕ) → k < n → cell_of_planes source k ≡ cell_of_planes source 0) → ⊥)
+    → ArePlanes n (λ i plane. IsPackedPlane (get_or atoms i Wide) plane) (cell_of_planes source) copies → AreKept false n atoms copies
 AreKept-narrowed n atoms source copies some long differ made =
     inr (
       (λ i atom plane within.
           let same : length copies ≡ length source =
-          sym (length-cell_in copies 0) ∙ ap length (made.cells 0 some) ∙ length-cell_in source 0 in
+          sym (length-cell_of_planes copies 0) ∙ ap length (made.cells 0 some) ∙ length-cell_of_planes source 0 in
           subst (λ (a : Atom). IsPackedPlane a (get_or copies i plane)) (get_or_default atoms i Wide atom (omega (arith, same, long))) (made.kinds i plane within)),
       λ equal.
           differ (λ k below. sym (made.cells k below) ∙ AreEqual-first copies n some equal k below ∙ made.cells 0 some),
@@ -95,19 +95,19 @@ AreKept-narrowed n atoms source copies some long differ made =
 
 -- a tile with the same numbers at each point
 pub tile_of-filled : (box : List Interval) (numbers : List ℤ) (atoms : List Atom) (planes : List Plane) → atoms ≡ replicate (length numbers) Wide
-    → ((k : ℕ) → k < length (points_of box) → cell_in planes k ≡ numbers) → tile_of box atoms planes true ≡ filled_tile box numbers
+    → ((k : ℕ) → k < length (points_of box) → cell_of_planes planes k ≡ numbers) → tile_of box atoms planes true ≡ filled_tile box numbers
 tile_of-filled box numbers atoms planes is same =
     rw (is, length-replicate (length numbers) Wide, cells_in-equal planes (length (points_of box)) numbers same) refl
 
 -- a copy
 pub tile_of-copied : (box : List Interval) (atoms : List Atom) (old new : List Plane) (was now : Bool)
-    → ((k : ℕ) → k < length (points_of box) → cell_in new k ≡ cell_in old k) → tile_of box atoms new now ≡ record (tile_of box atoms old was) { writable = now }
+    → ((k : ℕ) → k < length (points_of box) → cell_of_planes new k ≡ cell_of_planes old k) → tile_of box atoms new now ≡ record (tile_of box atoms old was) { writable = now }
 tile_of-copied box atoms old new was now same =
     rw (cells_in-same new old (length (points_of box)) same) refl
 
 -- a packed one
 pub tile_of-packed : (box : List Interval) (had atoms : List Atom) (old new : List Plane) (was : Bool) → length atoms ≡ length had
-    → ((k : ℕ) → k < length (points_of box) → cell_in new k ≡ cell_in old k) → tile_of box atoms new false ≡ packed_tile atoms (tile_of box had old was)
+    → ((k : ℕ) → k < length (points_of box) → cell_of_planes new k ≡ cell_of_planes old k) → tile_of box atoms new false ≡ packed_tile atoms (tile_of box had old was)
 tile_of-packed box had atoms old new was long same =
     rw (cells_in-same new old (length (points_of box)) same, long) refl
 
@@ -159,7 +159,7 @@ cell_at-set_other tile p q numbers inside here differ =
 
 -- one cell written, over the whole tile
 pub tile_of-set : (box : List Interval) (atoms : List Atom) (old new : List Plane) (p numbers : List ℤ) (writable : Bool) → IsIn p box
-    → cell_in new (place_in_rows box p) ≡ numbers → ((k : ℕ) → k ≢ place_in_rows box p → cell_in new k ≡ cell_in old k)
+    → cell_of_planes new (place_in_rows box p) ≡ numbers → ((k : ℕ) → k ≢ place_in_rows box p → cell_of_planes new k ≡ cell_of_planes old k)
     → tile_of box atoms new writable ≡ record (tile_of box atoms old writable) { cells = set (cells_in old (length (points_of box))) (place_in_rows box p) numbers }
 tile_of-set box atoms old new p numbers writable inside written others =
     let same : cells_in new (length (points_of box)) ≡ set (cells_in old (length (points_of box))) (place_in_rows box p) numbers =
@@ -207,7 +207,7 @@ uniform_where_equal box atoms planes true plane i run stored shut within is unif
 uniform_where_equal box atoms planes false plane i run stored shut within is uniform packed =
     elim stored.kept [
       | inl all ↦ (
-        λ _. AreEqual-from_first planes (length (points_of box)) (λ k below. cell_in-uniform planes k all),
+        λ _. AreEqual-from_first planes (length (points_of box)) (λ k below. cell_of_planes-uniform planes k all),
         λ _. uniform (subst IsUniformPlane (sym is) (all i plane within)),
       )
       | inr each ↦ (
@@ -222,7 +222,7 @@ pub packed_where_not : (box : List Interval) (atoms : List Atom) (planes : List 
 packed_where_not box atoms planes true plane i run stored shut differ within is packed = absurd (shut refl)
 packed_where_not box atoms planes false plane i run stored shut differ within is packed =
     elim stored.kept [
-      | inl all ↦ absurd (differ (AreEqual-from_first planes (length (points_of box)) (λ k below. cell_in-uniform planes k all)))
+      | inl all ↦ absurd (differ (AreEqual-from_first planes (length (points_of box)) (λ k below. cell_of_planes-uniform planes k all)))
       | inr each ↦ packed (get_or atoms i Wide) (subst (IsPackedPlane (get_or atoms i Wide)) (sym is) (each.0 i Wide plane within))
     ]
 
@@ -233,11 +233,11 @@ plain_where_writable box atoms planes false plane i stored open_now within is = 
 
 -- ---- cells in range
 
-pub in_range_at : (atoms : List Atom) (planes : List Plane) (n k : ℕ) → All (AreInRange atoms) (cells_in planes n) → k < n → AreInRange atoms (cell_in planes k)
+pub in_range_at : (atoms : List Atom) (planes : List Plane) (n k : ℕ) → All (AreInRange atoms) (cells_in planes n) → k < n → AreInRange atoms (cell_of_planes planes k)
 in_range_at atoms planes n k range below =
     subst (AreInRange atoms) (get_or-cells_in planes n k below) (range k [] (omega (arith, length-cells_in planes n)))
 
 -- there are as many atoms as planes
 pub length-in_range : (atoms : List Atom) (planes : List Plane) (n : ℕ) → All (AreInRange atoms) (cells_in planes n) → 0 < n → length planes ≡ length atoms
 length-in_range atoms planes n range some =
-    sym (length-cell_in planes 0) ∙ length-AreInRange atoms (cell_in planes 0) (in_range_at atoms planes n 0 range some)
+    sym (length-cell_of_planes planes 0) ∙ length-AreInRange atoms (cell_of_planes planes 0) (in_range_at atoms planes n 0 range some)

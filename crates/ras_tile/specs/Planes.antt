@@ -7,27 +7,27 @@ use Rattle.ras_tile.specs.declared.plane.Plane.{Plane}
 use Rattle.ras_tile.specs.declared.plane.Plane.TheVariants.{Uniform, U8, I8, U16, I16, U32, I32, Plain}
 
 -- the number at a place of a list
-abbrev pub number_at : List ℤ → ℕ → ℤ
-number_at numbers k = slice_index_or numbers k (pos 0)
+abbrev pub listed_number : List ℤ → ℕ → ℤ
+listed_number numbers k = slice_index_or numbers k (pos 0)
 
 -- the number of the cell at a place
-abbrev pub number_in : Plane → ℕ → ℤ
-number_in (Uniform number) k = number
-number_in (U8 bytes) k = number_at (map pos bytes.items) k
-number_in (I8 bytes) k = number_at bytes.items k
-number_in (U16 shorts) k = number_at (map pos shorts.items) k
-number_in (I16 shorts) k = number_at shorts.items k
-number_in (U32 longs) k = number_at (map pos longs.items) k
-number_in (I32 longs) k = number_at longs.items k
-number_in (Plain numbers) k = number_at numbers.items k
+abbrev pub plane_number : Plane → ℕ → ℤ
+plane_number (Uniform number) k = number
+plane_number (U8 bytes) k = listed_number (map pos bytes.items) k
+plane_number (I8 bytes) k = listed_number bytes.items k
+plane_number (U16 shorts) k = listed_number (map pos shorts.items) k
+plane_number (I16 shorts) k = listed_number shorts.items k
+plane_number (U32 longs) k = listed_number (map pos longs.items) k
+plane_number (I32 longs) k = listed_number longs.items k
+plane_number (Plain numbers) k = listed_number numbers.items k
 
 -- the cell at a place
-abbrev pub cell_in : List Plane → ℕ → List ℤ
-cell_in planes k = map (λ plane. number_in plane k) planes
+abbrev pub cell_of_planes : List Plane → ℕ → List ℤ
+cell_of_planes planes k = map (λ plane. plane_number plane k) planes
 
 -- the first n cells
 unfoldable pub cells_in : List Plane → ℕ → List (List ℤ)
-cells_in planes n = map (cell_in planes) (range_with_len 0 n)
+cells_in planes n = map (cell_of_planes planes) (range_with_len 0 n)
 
 -- ---- how many numbers a plane has
 
@@ -78,6 +78,6 @@ IsPackedPlane atom (Plain numbers) = atom ≡ Wide
 
 -- these planes have n of these cells, and each is kept so
 pub record ArePlanes (n : ℕ) (kept : ℕ → Plane → Type 0) (cell : ℕ → List ℤ) (planes : List Plane) : Type 0 where
-  pub cells : (k : ℕ) → k < n → cell_in planes k ≡ cell k
+  pub cells : (k : ℕ) → k < n → cell_of_planes planes k ≡ cell k
   pub whole : All (HasNumbers n) planes
   pub kinds : (i : ℕ) (plane : Plane) → i < length planes → kept i (slice_index_or planes i plane)

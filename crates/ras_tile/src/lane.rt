@@ -2,7 +2,7 @@
 ghost use Rattle.std.specs.Prelude.{◌≡◌, ◌+◌, ◌<◌, ◌≤◌, ◌↔◌, ℕ, ℤ, List, pos, map, length, All, IfOk, IsTrue};
 ghost use Rattle.ras_cells.specs.Atoms.{IsInRange};
 ghost use Rattle.ras_cells.specs.declared.atom.Atom.TheVariants.{Octet, Char, Short, Ushort, Long, Ulong, Wide};
-ghost use Rattle.ras_tile.specs.Planes.{number_at};
+ghost use Rattle.ras_tile.specs.Planes.{listed_number};
 
 use std::alloc::{AllocError, Global};
 
@@ -123,7 +123,7 @@ impl Lane for i64 {
 /// The number at this place.
 pub(crate) fn at<T: Lane>(numbers: &[T], place: usize) -> i64
     requires { place < length numbers.now }
-    ensures { result ≡ number_at (map T.number numbers.now) place }
+    ensures { result ≡ listed_number (map T.number numbers.now) place }
 {
     numbers[place].widen()
 }
@@ -132,7 +132,7 @@ pub(crate) fn at<T: Lane>(numbers: &[T], place: usize) -> i64
 pub(crate) fn widen_from<T: Lane>(numbers: &[T], from: usize, out: &mut [i64])
     requires { from + length out.old ≤ length numbers.now }
     ensures { (k : ℕ) → k < length out.old
-        → number_at out.new k ≡ number_at (map T.number numbers.now) (from + k) }
+        → listed_number out.new k ≡ listed_number (map T.number numbers.now) (from + k) }
 {
     for i in 0..out.len() {
         out[i] = numbers[from + i].widen();
@@ -167,7 +167,7 @@ fn narrow_all<T: Lane>(kept: &mut [T], numbers: &[i64])
 pub(crate) fn are_equal<T: Lane>(numbers: &[T]) -> bool
     ensures { IsTrue result
         ↔ ((k : ℕ) → k < length numbers.now
-        → number_at (map T.number numbers.now) k ≡ number_at (map T.number numbers.now) 0) }
+        → listed_number (map T.number numbers.now) k ≡ listed_number (map T.number numbers.now) 0) }
 {
     let Some(first) = numbers.first() else {
         return true;

@@ -3,7 +3,7 @@ ghost use Rattle.std.specs.Prelude.{◌≡◌, ◌≢◌, ◌+◌, ◌<◌, ◌�
 ghost use Rattle.ras_cells.specs.Atoms.{IsInRange};
 ghost use Rattle.ras_cells.specs.Runs.{IsRunOf};
 ghost use Rattle.ras_cells.specs.declared.atom.Atom.{Atom as TheAtom};
-ghost use Rattle.ras_tile.specs.Planes.{number_at, number_in, HasNumbers, Reaches, IsUniformPlane, IsPlainPlane, IsPackedPlane};
+ghost use Rattle.ras_tile.specs.Planes.{listed_number, plane_number, HasNumbers, Reaches, IsUniformPlane, IsPlainPlane, IsPackedPlane};
 ghost use Rattle.ras_tile.specs.Lent.{IsUniform, IsPlain, IsPackedAs};
 
 use crate::lane::{are_equal, at, narrowed, widen_from};
@@ -28,7 +28,7 @@ impl Plane {
     /// The number of the cell at this place.
     pub(crate) fn at(&self, place: usize) -> i64
         requires { Reaches (place + 1) self.now }
-        ensures { result ≡ number_in self.now place }
+        ensures { result ≡ plane_number self.now place }
     {
         match self {
             Plane::Uniform(number) => *number,
@@ -45,7 +45,7 @@ impl Plane {
     /// Writes the numbers of the cells from this place on, as many as `out` has.
     pub(crate) fn read(&self, from: usize, out: &mut [i64])
         requires { Reaches (from + length out.old) self.now }
-        ensures { (k : ℕ) → k < length out.old → number_at out.new k ≡ number_in self.now (from + k) }
+        ensures { (k : ℕ) → k < length out.old → listed_number out.new k ≡ plane_number self.now (from + k) }
     {
         match self {
             Plane::Uniform(number) => out.fill(*number),
@@ -63,8 +63,8 @@ impl Plane {
     pub(crate) fn write(&mut self, place: usize, number: &i64)
         requires plain { IsPlainPlane self.old }
         requires within { Reaches (place + 1) self.old }
-        ensures written { number_in self.new place ≡ number.now }
-        ensures others { (k : ℕ) → k ≢ place → number_in self.new k ≡ number_in self.old k }
+        ensures written { plane_number self.new place ≡ number.now }
+        ensures others { (k : ℕ) → k ≢ place → plane_number self.new k ≡ plane_number self.old k }
         ensures plain { IsPlainPlane self.new }
         ensures whole { (n : ℕ) → HasNumbers n self.old → HasNumbers n self.new }
         ensures reach { (n : ℕ) → Reaches n self.old → Reaches n self.new }
@@ -78,7 +78,7 @@ impl Plane {
     /// Whether the numbers of all cells are equal.
     pub(crate) fn is_constant(&self) -> bool
         ensures { (n : ℕ) → HasNumbers n self.now
-            → IsTrue result ↔ ((k : ℕ) → k < n → number_in self.now k ≡ number_in self.now 0) }
+            → IsTrue result ↔ ((k : ℕ) → k < n → plane_number self.now k ≡ plane_number self.now 0) }
     {
         match self {
             Plane::Uniform(_) => true,
@@ -97,7 +97,7 @@ impl Plane {
         requires { Reaches cells self.now }
         ensures long { IfOk result (λ numbers. length numbers.items ≡ cells) }
         ensures numbers { IfOk result (λ numbers. (k : ℕ) → k < cells
-            → number_at numbers.items k ≡ number_in self.now k) }
+            → listed_number numbers.items k ≡ plane_number self.now k) }
     {
         let mut numbers = vec![in alloc; 0i64; cells]?;
         self.read(0, numbers.as_mut_slice());
@@ -112,11 +112,11 @@ impl Plane {
         cells: usize,
     ) -> Result<Plane, AllocError>
         requires whole { HasNumbers cells self.now }
-        requires range { (k : ℕ) → k < cells → IsInRange atom (number_in self.now k) }
+        requires range { (k : ℕ) → k < cells → IsInRange atom (plane_number self.now k) }
         ensures packed { IfOk result (IsPackedPlane atom) }
         ensures whole { IfOk result (HasNumbers cells) }
         ensures numbers { IfOk result (λ plane. (k : ℕ) → k < cells
-            → number_in plane k ≡ number_in self.now k) }
+            → plane_number plane k ≡ plane_number self.now k) }
     {
         match self {
             Plane::Plain(numbers) => packed(alloc, atom, numbers.as_slice()),
@@ -130,7 +130,7 @@ impl Plane {
     /// The numbers as they are kept.
     pub(crate) fn lent(&self) -> Run<'_>
         ensures numbers { (numbers : List ℤ) → HasNumbers (length numbers) self.now
-            → ((k : ℕ) → k < length numbers → number_at numbers k ≡ number_in self.now k)
+            → ((k : ℕ) → k < length numbers → listed_number numbers k ≡ plane_number self.now k)
             → IsRunOf numbers result }
         ensures uniform { IsUniformPlane self.now → IsUniform result }
         ensures plain { IsPlainPlane self.now → IsPlain result }
@@ -155,7 +155,7 @@ fn packed(alloc: Global, atom: Atom, numbers: &[i64]) -> Result<Plane, AllocErro
     ensures packed { IfOk result (IsPackedPlane atom) }
     ensures whole { IfOk result (HasNumbers (length numbers.now)) }
     ensures numbers { IfOk result (λ plane. (k : ℕ) → k < length numbers.now
-        → number_in plane k ≡ number_at numbers.now k) }
+        → plane_number plane k ≡ listed_number numbers.now k) }
 {
     match atom {
         Atom::Bool | Atom::Char => Ok(Plane::U8(narrowed(alloc, numbers)?)),

@@ -1,7 +1,7 @@
 //! The planes of a tile, one a component.
 ghost use Rattle.std.specs.Prelude.{◌≡◌, ◌≢◌, ◌+◌, ◌<◌, ◌≤◌, ◌↔◌, ℕ, List, ℤ, false, length, slice_index_or, All, IfOk, IsTrue};
 ghost use Rattle.ras_cells.specs.Atoms.{AreInRange};
-ghost use Rattle.ras_tile.specs.Planes.{number_in, cell_in, HasNumbers, Reaches, IsUniformPlane, IsPlainPlane, IsPackedPlane, ArePlanes};
+ghost use Rattle.ras_tile.specs.Planes.{plane_number, cell_of_planes, HasNumbers, Reaches, IsUniformPlane, IsPlainPlane, IsPackedPlane, ArePlanes};
 ghost use Rattle.ras_tile.specs.Stored.{AreKept};
 
 use crate::plane::Plane;
@@ -29,7 +29,7 @@ pub(crate) fn widened(
 ) -> Result<Vec<Plane>, AllocError>
     requires { All (HasNumbers cells) planes.now }
     ensures long { IfOk result (λ copies. length copies.items ≡ length planes.now) }
-    ensures planes { IfOk result (λ copies. ArePlanes cells (λ _ plane. IsPlainPlane plane) (cell_in planes.now) copies.items) }
+    ensures planes { IfOk result (λ copies. ArePlanes cells (λ _ plane. IsPlainPlane plane) (cell_of_planes planes.now) copies.items) }
 {
     let mut copies = Vec::with_capacity(alloc, planes.len())?;
     for plane in planes {
@@ -50,9 +50,9 @@ pub(crate) fn packed(
     requires some { 0 < cells }
     requires each_atom { length planes.now ≡ length atoms.now }
     requires whole { All (HasNumbers cells) planes.now }
-    requires range { (k : ℕ) → k < cells → AreInRange atoms.now (cell_in planes.now k) }
+    requires range { (k : ℕ) → k < cells → AreInRange atoms.now (cell_of_planes planes.now k) }
     ensures long { IfOk result (λ copies. length copies.items ≡ length planes.now) }
-    ensures cells { IfOk result (λ copies. (k : ℕ) → k < cells → cell_in copies.items k ≡ cell_in planes.now k) }
+    ensures cells { IfOk result (λ copies. (k : ℕ) → k < cells → cell_of_planes copies.items k ≡ cell_of_planes planes.now k) }
     ensures whole { IfOk result (λ copies. All (HasNumbers cells) copies.items) }
     ensures kept { IfOk result (λ copies. AreKept false cells atoms.now copies.items) }
 {
@@ -72,9 +72,9 @@ fn narrowed(
 ) -> Result<Vec<Plane>, AllocError>
     requires each_atom { length planes.now ≡ length atoms.now }
     requires whole { All (HasNumbers cells) planes.now }
-    requires range { (k : ℕ) → k < cells → AreInRange atoms.now (cell_in planes.now k) }
+    requires range { (k : ℕ) → k < cells → AreInRange atoms.now (cell_of_planes planes.now k) }
     ensures long { IfOk result (λ copies. length copies.items ≡ length planes.now) }
-    ensures planes { IfOk result (λ copies. ArePlanes cells (λ i plane. IsPackedPlane (slice_index_or atoms.now i Atom.Wide) plane) (cell_in planes.now) copies.items) }
+    ensures planes { IfOk result (λ copies. ArePlanes cells (λ i plane. IsPackedPlane (slice_index_or atoms.now i Atom.Wide) plane) (cell_of_planes planes.now) copies.items) }
 {
     let mut copies = Vec::with_capacity(alloc, planes.len())?;
     for i in 0..planes.len() {
@@ -88,9 +88,9 @@ fn narrowed(
 fn uniform(alloc: Global, cells: usize, planes: &[Plane]) -> Result<Vec<Plane>, AllocError>
     requires some { 0 < cells }
     requires whole { All (HasNumbers cells) planes.now }
-    requires equal { (k : ℕ) → k < cells → cell_in planes.now k ≡ cell_in planes.now 0 }
+    requires equal { (k : ℕ) → k < cells → cell_of_planes planes.now k ≡ cell_of_planes planes.now 0 }
     ensures long { IfOk result (λ copies. length copies.items ≡ length planes.now) }
-    ensures planes { IfOk result (λ copies. ArePlanes cells (λ _ plane. IsUniformPlane plane) (cell_in planes.now) copies.items) }
+    ensures planes { IfOk result (λ copies. ArePlanes cells (λ _ plane. IsUniformPlane plane) (cell_of_planes planes.now) copies.items) }
 {
     let mut copies = Vec::with_capacity(alloc, planes.len())?;
     for plane in planes {
@@ -103,7 +103,7 @@ fn uniform(alloc: Global, cells: usize, planes: &[Plane]) -> Result<Vec<Plane>, 
 /// Whether all cells are equal.
 fn are_constant(planes: &[Plane]) -> bool
     ensures { (n : ℕ) → All (HasNumbers n) planes.now
-        → IsTrue result ↔ ((k : ℕ) → k < n → cell_in planes.now k ≡ cell_in planes.now 0) }
+        → IsTrue result ↔ ((k : ℕ) → k < n → cell_of_planes planes.now k ≡ cell_of_planes planes.now 0) }
 {
     for plane in planes {
         if !plane.is_constant() {
@@ -117,7 +117,7 @@ fn are_constant(planes: &[Plane]) -> bool
 pub(crate) fn read_cell(planes: &[Plane], place: usize) -> Numbers
     requires few { length planes.now ≤ MAX_COMPONENTS }
     requires within { All (Reaches (place + 1)) planes.now }
-    ensures { result.items ≡ cell_in planes.now place }
+    ensures { result.items ≡ cell_of_planes planes.now place }
 {
     let mut numbers = Numbers::new();
     for plane in planes {
@@ -131,8 +131,8 @@ pub(crate) fn write_cell(planes: &mut [Plane], place: usize, numbers: &[i64])
     requires each_number { length numbers.now ≡ length planes.old }
     requires plain { All IsPlainPlane planes.old }
     requires within { All (Reaches (place + 1)) planes.old }
-    ensures written { cell_in planes.new place ≡ numbers.now }
-    ensures others { (k : ℕ) → k ≢ place → cell_in planes.new k ≡ cell_in planes.old k }
+    ensures written { cell_of_planes planes.new place ≡ numbers.now }
+    ensures others { (k : ℕ) → k ≢ place → cell_of_planes planes.new k ≡ cell_of_planes planes.old k }
     ensures plain { All IsPlainPlane planes.new }
     ensures whole { (n : ℕ) → All (HasNumbers n) planes.old → All (HasNumbers n) planes.new }
 {

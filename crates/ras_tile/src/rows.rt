@@ -1,7 +1,7 @@
 //! The copying of cells between planes, a row at a time.
 ghost use Rattle.std.specs.Prelude.{◌≡◌, ◌+◌, ◌<◌, ◌≤◌, ◌⊎◌, ℕ, ℤ, List, length, All};
 ghost use Rattle.ras_domain.specs.Region.{IsIn, IsRegion, points_of, place_in_rows};
-ghost use Rattle.ras_tile.specs.Planes.{number_at, number_in, cell_in, HasNumbers, Reaches, IsPlainPlane};
+ghost use Rattle.ras_tile.specs.Planes.{listed_number, plane_number, cell_of_planes, HasNumbers, Reaches, IsPlainPlane};
 ghost use Rattle.ras_tile.specs.Stored.{along};
 
 use crate::plane::Plane;
@@ -22,9 +22,9 @@ pub(crate) fn copy_planes(
     requires to_covers { (p : List ℤ) → IsIn p region.now → IsIn p to_box.now }
     requires from_covers { (p : List ℤ) → IsIn p region.now → IsIn p from_box.now }
     ensures copied { (p : List ℤ) → IsIn p region.now
-        → cell_in to.new (place_in_rows to_box.now p) ≡ cell_in from.now (place_in_rows from_box.now p) }
+        → cell_of_planes to.new (place_in_rows to_box.now p) ≡ cell_of_planes from.now (place_in_rows from_box.now p) }
     ensures others { (p : List ℤ) → IsIn p to_box.now → ¬ IsIn p region.now
-        → cell_in to.new (place_in_rows to_box.now p) ≡ cell_in to.old (place_in_rows to_box.now p) }
+        → cell_of_planes to.new (place_in_rows to_box.now p) ≡ cell_of_planes to.old (place_in_rows to_box.now p) }
     ensures plain { All IsPlainPlane to.new }
     ensures whole { All (HasNumbers (length (points_of to_box.now))) to.new }
 {
@@ -41,9 +41,9 @@ fn copy_plane(to: &mut Plane, to_box: &Region, from: &Plane, from_box: &Region, 
     requires to_covers { (p : List ℤ) → IsIn p region.now → IsIn p to_box.now }
     requires from_covers { (p : List ℤ) → IsIn p region.now → IsIn p from_box.now }
     ensures copied { (p : List ℤ) → IsIn p region.now
-        → number_in to.new (place_in_rows to_box.now p) ≡ number_in from.now (place_in_rows from_box.now p) }
+        → plane_number to.new (place_in_rows to_box.now p) ≡ plane_number from.now (place_in_rows from_box.now p) }
     ensures others { (p : List ℤ) → IsIn p to_box.now → ¬ IsIn p region.now
-        → number_in to.new (place_in_rows to_box.now p) ≡ number_in to.old (place_in_rows to_box.now p) }
+        → plane_number to.new (place_in_rows to_box.now p) ≡ plane_number to.old (place_in_rows to_box.now p) }
     ensures plain { IsPlainPlane to.new }
     ensures whole { HasNumbers (length (points_of to_box.now)) to.new }
 {
@@ -63,9 +63,9 @@ fn copy_rows(to: &mut [i64], to_box: &Region, from: &Plane, from_box: &Region, r
     requires to_covers { (p : List ℤ) → IsIn p region.now → IsIn p to_box.now }
     requires from_covers { (p : List ℤ) → IsIn p region.now → IsIn p from_box.now }
     ensures copied { (p : List ℤ) → IsIn p region.now
-        → number_at to.new (place_in_rows to_box.now p) ≡ number_in from.now (place_in_rows from_box.now p) }
+        → listed_number to.new (place_in_rows to_box.now p) ≡ plane_number from.now (place_in_rows from_box.now p) }
     ensures others { (p : List ℤ) → IsIn p to_box.now → ¬ IsIn p region.now
-        → number_at to.new (place_in_rows to_box.now p) ≡ number_at to.old (place_in_rows to_box.now p) }
+        → listed_number to.new (place_in_rows to_box.now p) ≡ listed_number to.old (place_in_rows to_box.now p) }
 {
     let mut next = Some(region.first_point());
     while let Some(mut p) = next {
@@ -95,8 +95,8 @@ fn finish_row(axes: &[Interval], p: &mut [i64]) -> u64
 fn copy_cells(to: &mut [i64], to_place: usize, from: &Plane, from_place: usize, cells: usize)
     requires to_within { to_place + cells ≤ length to.old }
     requires from_within { Reaches (from_place + cells) from.now }
-    ensures copied { (k : ℕ) → k < cells → number_at to.new (to_place + k) ≡ number_in from.now (from_place + k) }
-    ensures others { (k : ℕ) → (k < to_place) ⊎ (to_place + cells ≤ k) → number_at to.new k ≡ number_at to.old k }
+    ensures copied { (k : ℕ) → k < cells → listed_number to.new (to_place + k) ≡ plane_number from.now (from_place + k) }
+    ensures others { (k : ℕ) → (k < to_place) ⊎ (to_place + cells ≤ k) → listed_number to.new k ≡ listed_number to.old k }
 {
     from.read(from_place, &mut to[to_place..to_place + cells]);
 }

@@ -5,7 +5,7 @@ use Rattle.ras_domain.specs.declared.region.Interval.{Interval}
 use Rattle.ras_top.specs.declared.TheConstants.{MOST_BYTES}
 use Rattle.ras_top.specs.declared.answer.Answer.{Answer}
 use Rattle.ras_top.specs.declared.answer.Answer.TheVariants.{Report, TooLong, NotBuilt, BadWords, ReadFailed, NoMemory}
-use Rattle.ras_top.specs.Answer.{IsRun, status_of, text_of, cut_short}
+use Rattle.ras_top.specs.Answer.{AreRunWords, status_of, text_of, cut_short}
 use Rattle.ras_top.specs.Call.{Call, IsAnswered, IsDueIn, Printed, ReadRose}
 use Rattle.ras_top.specs.Texts.{region_text}
 use Rattle.ras_top.specs.Workload.{IsTrim, IsFirstText, first_text, workload_opening, workload_closing}
@@ -44,7 +44,7 @@ whole-status ReadFailed e = omega (arith, e)
 whole-status NoMemory e = omega (arith, e)
 
 -- accepted words, a first text and no fault
-reported-whole : (call : Call) (answer : Answer) → IsDueIn call answer → IsRun call.words → (axes : List Interval) → IsTrim axes → call.input ≡ Some (first_text axes)
+reported-whole : (call : Call) (answer : Answer) → IsDueIn call answer → AreRunWords call.words → (axes : List Interval) → IsTrim axes → call.input ≡ Some (first_text axes)
     → ¬ ReadRose call → (status_of answer ≡ 0) ⊎ (status_of answer ≡ 5)
 reported-whole call (Report axes) due run others trim told quiet = inl refl
 reported-whole call TooLong due run axes trim told quiet = absurd (omega (arith, rw told at due.1, length-first_text axes trim))
@@ -54,7 +54,7 @@ reported-whole call ReadFailed due run axes trim told quiet = absurd (quiet due.
 reported-whole call NoMemory due run axes trim told quiet = inr refl
 
 -- accepted words, another text and no fault
-refused-whole : (call : Call) (answer : Answer) → IsDueIn call answer → IsRun call.words → (text : List ℕ) → call.input ≡ Some text → ¬ IsFirstText text
+refused-whole : (call : Call) (answer : Answer) → IsDueIn call answer → AreRunWords call.words → (text : List ℕ) → call.input ≡ Some text → ¬ IsFirstText text
     → ¬ ReadRose call → (status_of answer ≡ 1) ⊎ (status_of answer ≡ 5)
 refused-whole call (Report axes) due run text told other quiet = absurd (other (axes, due.1, rw told at due.2))
 refused-whole call TooLong due run text told other quiet = inl refl
@@ -64,7 +64,7 @@ refused-whole call ReadFailed due run text told other quiet = absurd (quiet due.
 refused-whole call NoMemory due run text told other quiet = inr refl
 
 -- other words
-words-whole : (call : Call) (answer : Answer) → IsDueIn call answer → ¬ IsRun call.words → (status_of answer ≡ 2) ⊎ (status_of answer ≡ 5)
+words-whole : (call : Call) (answer : Answer) → IsDueIn call answer → ¬ AreRunWords call.words → (status_of answer ≡ 2) ⊎ (status_of answer ≡ 5)
 words-whole call (Report axes) due other = absurd (other due.0)
 words-whole call TooLong due other = absurd (other due.0)
 words-whole call NotBuilt due other = absurd (other due.0)
@@ -74,7 +74,7 @@ words-whole call NoMemory due other = inr refl
 
 -- a call whose text was written whole
 pub IsAnswered-whole : (call : Call) (answer : Answer) → IsDueIn call answer → Printed call (text_of answer)
-    → (¬ IsRun call.words → (call.rest ≡ call.input) × (call.reads_after ≡ call.reads_before)) → call.reads_before ≤ call.reads_after → call.writes_before ≤ call.writes_after
+    → (¬ AreRunWords call.words → (call.rest ≡ call.input) × (call.reads_after ≡ call.reads_before)) → call.reads_before ≤ call.reads_after → call.writes_before ≤ call.writes_after
     → IsAnswered call (status_of answer)
 IsAnswered-whole call answer due printed unread reads writes = record {
   whole = λ _. (answer, refl, due, printed);

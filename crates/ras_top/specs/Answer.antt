@@ -9,8 +9,8 @@ use Rattle.ras_top.specs.Workload.{IsTrim, IsFirstText, first_text}
 use Rattle.ras_top.specs.Report.{first_report}
 
 -- the words that are accepted so far
-abbrev pub IsRun : List (List ℕ) → Type 0
-IsRun words = words ≡ codes "run" ∷ codes "--schedule" ∷ codes "1" ∷ []
+abbrev pub AreRunWords : List (List ℕ) → Type 0
+AreRunWords words = words ≡ codes "run" ∷ codes "--schedule" ∷ codes "1" ∷ []
 
 abbrev pub status_of : Answer → ℕ
 status_of (Report axes) = 0
@@ -44,10 +44,10 @@ IsTextAnswer text _ = ⊥
 module _ (words : List (List ℕ)) (input rest : Option (List ℕ)) (faults_before faults_after : ℕ) where
   -- what must hold for each answer. Want of memory may come at any time
   abbrev pub IsDue : Answer → Type 0
-  IsDue (Report axes) = IsRun words × IsTrim axes × IfSome input (λ text. text ≡ first_text axes) × IsAtEnd rest
-  IsDue TooLong = IsRun words × IfSome input (λ text. MOST_BYTES < length text)
+  IsDue (Report axes) = AreRunWords words × IsTrim axes × IfSome input (λ text. text ≡ first_text axes) × IsAtEnd rest
+  IsDue TooLong = AreRunWords words × IfSome input (λ text. MOST_BYTES < length text)
   IsDue NotBuilt =
-      IsRun words × IfSome input (λ text. (length text ≤ MOST_BYTES) × (¬ IsFirstText text)) × IsAtEnd rest
-  IsDue BadWords = ¬ IsRun words
-  IsDue ReadFailed = IsRun words × Rose faults_before faults_after
+      AreRunWords words × IfSome input (λ text. (length text ≤ MOST_BYTES) × (¬ IsFirstText text)) × IsAtEnd rest
+  IsDue BadWords = ¬ AreRunWords words
+  IsDue ReadFailed = AreRunWords words × Rose faults_before faults_after
   IsDue NoMemory = Unit {0}

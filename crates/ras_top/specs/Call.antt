@@ -6,7 +6,7 @@ use Rattle.ras_domain.specs.declared.region.Interval.{Interval}
 use Rattle.ras_edges.specs.Faults.{Rose}
 use Rattle.ras_edges.specs.Sink.{IsFlushed}
 use Rattle.ras_top.specs.declared.answer.Answer.{Answer}
-use Rattle.ras_top.specs.Answer.{IsRun, IsDue, status_of, text_of, cut_short}
+use Rattle.ras_top.specs.Answer.{AreRunWords, IsDue, status_of, text_of, cut_short}
 use Rattle.ras_top.specs.Workload.{IsTrim, IsFirstText, first_text}
 
 -- what can be seen of a call. Bytes are there where the source or the sink tells them
@@ -70,14 +70,14 @@ module _ (call : Call) where
     -- text of an answer that is due
     pub cut : status ≡ cut_short → WriteRose × ((answer : Answer) × IsDueIn answer × PrintedFront (text_of answer))
     -- accepted words, a first text and no fault give its report, or want of memory
-    pub reported : IsRun call.words → (axes : List Interval) → IsTrim axes → call.input ≡ Some (first_text axes)
+    pub reported : AreRunWords call.words → (axes : List Interval) → IsTrim axes → call.input ≡ Some (first_text axes)
         → ¬ ReadRose → ¬ WriteRose → (status ≡ 0) ⊎ (status ≡ 5)
     -- accepted words, any other text and no fault give its refusal, or want of memory
-    pub refused : IsRun call.words → (text : List ℕ) → call.input ≡ Some text → ¬ IsFirstText text
+    pub refused : AreRunWords call.words → (text : List ℕ) → call.input ≡ Some text → ¬ IsFirstText text
         → ¬ ReadRose → ¬ WriteRose → (status ≡ 1) ⊎ (status ≡ 5)
     -- other words give their refusal, or want of memory, and nothing is read
-    pub other_words : ¬ IsRun call.words → ¬ WriteRose → (status ≡ 2) ⊎ (status ≡ 5)
-    pub unread : ¬ IsRun call.words → (call.rest ≡ call.input) × (call.reads_after ≡ call.reads_before)
+    pub other_words : ¬ AreRunWords call.words → ¬ WriteRose → (status ≡ 2) ⊎ (status ≡ 5)
+    pub unread : ¬ AreRunWords call.words → (call.rest ≡ call.input) × (call.reads_after ≡ call.reads_before)
     -- no count falls
     pub reads_stay : call.reads_before ≤ call.reads_after
     pub writes_stay : call.writes_before ≤ call.writes_after

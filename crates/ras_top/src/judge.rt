@@ -1,6 +1,6 @@
 //! Which answer is due.
 ghost use Rattle.std.specs.Prelude.{◌≡◌, ◌≤◌, ◌↔◌, map, string_bytes, IsTrue};
-ghost use Rattle.ras_top.specs.Answer.{IsRun, IsDue, IsTextAnswer};
+ghost use Rattle.ras_top.specs.Answer.{AreRunWords, IsDue, IsTextAnswer};
 
 use crate::MOST_BYTES;
 use crate::answer::Answer;
@@ -14,7 +14,7 @@ use std::alloc::Global;
 pub fn judge<S: Source>(alloc: Global, words: &[String], source: &mut S) -> Answer
     ensures due { IsDue (map string_bytes words.now) (S.left source.old) (S.left source.new)
         (S.faults source.old) (S.faults source.new) result }
-    ensures unread { ¬ IsRun (map string_bytes words.now) → source.new ≡ source.old }
+    ensures unread { ¬ AreRunWords (map string_bytes words.now) → source.new ≡ source.old }
     ensures faults_stay { S.faults source.old ≤ S.faults source.new }
 {
     if !is_run(words) {
@@ -30,7 +30,7 @@ pub fn judge<S: Source>(alloc: Global, words: &[String], source: &mut S) -> Answ
 
 /// Whether these are the words that are accepted so far.
 fn is_run(words: &[String]) -> bool
-    ensures { IsTrue result ↔ IsRun (map string_bytes words.now) }
+    ensures { IsTrue result ↔ AreRunWords (map string_bytes words.now) }
 {
     let [command, option, schedule] = words else {
         return false;

@@ -1,7 +1,7 @@
 //! The calls that the program makes.
 ghost use Rattle.std.specs.Prelude.{◌≡◌, ◌≢◌, map, string_bytes, IsSome, IfSome};
 ghost use Rattle.ras_edges.specs.Sink.{Wrote, Stopped, IsFlushed};
-ghost use Rattle.ras_top.specs.Answer.{IsRun, cut_short, status_of, text_of};
+ghost use Rattle.ras_top.specs.Answer.{AreRunWords, cut_short, status_of, text_of};
 ghost use Rattle.ras_top.specs.declared.answer.Answer.TheVariants.{NoMemory};
 ghost use Rattle.ras_top.specs.Call.{call_of, IsAnswered};
 
@@ -38,7 +38,7 @@ pub fn rasq_quiet<R: Threads + Sync, S: Source, K: Sink>(
     ensures always { IsSome result }
     ensures answered { IfSome result (IsAnswered (call_of S.left S.faults K.taken K.flushed K.faults
         (map string_bytes words.now) source.old source.new sink.old sink.new)) }
-    ensures unread { ¬ IsRun (map string_bytes words.now) → source.new ≡ source.old }
+    ensures unread { ¬ AreRunWords (map string_bytes words.now) → source.new ≡ source.old }
 {
     let answer = judge(alloc, words, source);
     match send(sink, &answer) {
@@ -74,7 +74,7 @@ pub fn rasq_main<R: Threads + Sync + Wait, S: Source, K: Sink, G: Gate>(
 ) -> u8
     ensures answered { IsAnswered (call_of S.left S.faults K.taken K.flushed K.faults
         (map string_bytes words.now) source.old source.new sink.old sink.new) result }
-    ensures unread { ¬ IsRun (map string_bytes words.now) → source.new ≡ source.old }
+    ensures unread { ¬ AreRunWords (map string_bytes words.now) → source.new ≡ source.old }
 {
     match rasq_quiet(rt, alloc, words, source, sink) {
         Some(status) => status,

@@ -39,8 +39,8 @@ first_coordinate (i ∷ rest) = i
 abbrev pub square : List Interval
 square = axis (pos 0) (pos 3) ∷ axis (pos 0) (pos 3) ∷ []
 
-abbrev pub line : List Interval
-line = axis (pos 0) (pos 3) ∷ []
+abbrev pub line_box : List Interval
+line_box = axis (pos 0) (pos 3) ∷ []
 
 abbrev pub worked_array : List Interval → (List ℤ → List ℤ) → Array
 worked_array domain cells = record { domain = domain; stored = map (λ p. (p, cells p)) (points_of domain) }
@@ -74,7 +74,7 @@ abbrev pub over_G : Environment
 over_G = one_array (set_type_of char []) (worked_array square (λ p. four_and p ∷ []))
 
 abbrev pub over_N : Environment
-over_N = one_array (set_type_of char ((pos 0, pos 0) ∷ [])) (worked_array line (λ p. pos 0 ∷ []))
+over_N = one_array (set_type_of char ((pos 0, pos 0) ∷ [])) (worked_array line_box (λ p. pos 0 ∷ []))
 
 abbrev pub over_R : Environment
 over_R = one_array (set_type_of rgb []) (worked_array (axis (pos 0) (pos 1) ∷ []) (λ p. first_coordinate p ∷ pos 10 ∷ pos 20 ∷ []))

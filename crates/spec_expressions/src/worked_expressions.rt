@@ -12,7 +12,7 @@ ghost use Rattle.ras_syntax.specs.declared.faults.ShapeFault.TheVariants.{Outsid
 ghost use Rattle.spec_expressions.specs.Eval.{cells_of};
 ghost use Rattle.spec_expressions.specs.Shape.{shape_of, array, scalar, box};
 ghost use Rattle.spec_expressions.specs.Tree.{node, truth, number, iterator, coordinate, unary, cast, binary, index, at_point, component, choice, composite, marray, condense, folded, shift, extend, concat, domain_of, bound_of, oid, lower, upper, no_trees, trees, no_pairs, pairs, no_axes, position, trim, own, edge, bounds, domain_like, always, only_where};
-ghost use Rattle.spec_expressions.specs.Worked.{axis, square, line, over_G, over_N, over_R, term, a, n, minus, op, p, trimmed, from_to, numbers, naturals, somewhere, wide_kind, nothing, line_of, pair_of_chars, one_and_two, rgb_line};
+ghost use Rattle.spec_expressions.specs.Worked.{axis, square, line_box, over_G, over_N, over_R, term, a, n, minus, op, p, trimmed, from_to, numbers, naturals, somewhere, wide_kind, nothing, line_of, pair_of_chars, one_and_two, rgb_line};
 
 /// Sums and extremes of whole arrays. Over nulls alone a sum is 0 and an extreme is null.
 pub fn folds_of_arrays()

@@ -50,8 +50,8 @@ abbrev pub lines_if_over : ReadScript → Option Walked → Option (List Line)
 lines_if_over script None = None
 lines_if_over script (Some walked) = elim (is_over script walked.state) [ true ↦ Some walked.lines | false ↦ None ]
 
-abbrev pub lines_of : ℕ → ReadScript → List Step → Option (List Line)
-lines_of session script steps = lines_if_over script (walk session script (reverse steps))
+abbrev pub lines_walked : ℕ → ReadScript → List Step → Option (List Line)
+lines_walked session script steps = lines_if_over script (walk session script (reverse steps))
 
 -- ---- two sessions that meet in one tile
 

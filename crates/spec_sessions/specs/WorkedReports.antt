@@ -29,8 +29,8 @@ named name = record { name = name; statements = [] }
 abbrev pub numbers_cell : List ℤ → Cell
 numbers_cell numbers = cell.Value (record { items = numbers })
 
-abbrev pub interval : ℕ → ℕ → Interval
-interval lo hi = record { lo = pos lo; hi = pos hi }
+abbrev pub worked_interval : ℕ → ℕ → Interval
+worked_interval lo hi = record { lo = pos lo; hi = pos hi }
 
 -- a value of one row: an array with cells of one number
 abbrev pub array_value : List Interval → List ℕ → Answer
@@ -48,13 +48,13 @@ tile_at i j = (Tile (codes "G") 1 (record { items = pos i ∷ pos j ∷ [] }), S
 
 -- ---- one session, `select a[1:2,1:2] from G as a`
 
-abbrev pub trimmed : OutcomeValue
-trimmed = record {
+abbrev pub trimmed_outcome : OutcomeValue
+trimmed_outcome = record {
   lines = (line 1 1 recorded ∷ []) ∷ [];
   history =
       Begun 1 1 1 ∷ Granted 1 1 1 on_collection ∷ Granted 1 1 2 on_domain
       ∷ Granted 1 1 4 (tile_at 0 0 ∷ tile_at 0 1 ∷ tile_at 1 0 ∷ tile_at 1 1 ∷ [])
-      ∷ Answered 1 1 (array_value (interval 1 2 ∷ interval 1 2 ∷ []) (5 ∷ 6 ∷ 9 ∷ 10 ∷ [])) ∷ Committed 1 1 ∷ [];
+      ∷ Answered 1 1 (array_value (worked_interval 1 2 ∷ worked_interval 1 2 ∷ []) (5 ∷ 6 ∷ 9 ∷ 10 ∷ [])) ∷ Committed 1 1 ∷ [];
 }
 
 -- ---- two sessions that meet in one tile
@@ -74,7 +74,7 @@ met = record {
       ∷ Begun 2 2 1 ∷ Granted 2 1 1 on_collection ∷ Granted 2 1 2 on_domain
       ∷ Refused 2 1 4 (Tile (codes "G") 1 (record { items = pos 0 ∷ pos 0 ∷ [] })) Shared 1 ∷ Aborted 2
       ∷ Begun 3 2 2 ∷ Granted 3 2 1 on_collection ∷ Granted 3 2 2 on_domain ∷ Granted 3 2 4 (tile_at 1 1 ∷ [])
-      ∷ Answered 3 2 (array_value (interval 2 3 ∷ interval 2 3 ∷ []) (10 ∷ 11 ∷ 14 ∷ 15 ∷ [])) ∷ Committed 3 1
+      ∷ Answered 3 2 (array_value (worked_interval 2 3 ∷ worked_interval 2 3 ∷ []) (10 ∷ 11 ∷ 14 ∷ 15 ∷ [])) ∷ Committed 3 1
       ∷ Committed 1 2 ∷ [];
 }
 

@@ -8,11 +8,11 @@ ghost use Rattle.spec_sessions.specs.Printable.{blanked, events_on, lines_on};
 ghost use Rattle.spec_sessions.specs.Report.{report_text};
 ghost use Rattle.spec_sessions.specs.Walk.{recorded};
 ghost use Rattle.spec_sessions.specs.Worked.{line};
-ghost use Rattle.spec_sessions.specs.WorkedReports.{each_kind, met, named, trimmed, untold_with};
+ghost use Rattle.spec_sessions.specs.WorkedReports.{each_kind, met, named, trimmed_outcome, untold_with};
 
 /// One session with `select a[1:2,1:2] from G as a`.
 pub fn one_select_is_reported()
-    ensures trim { report_text (named (codes "A") ∷ []) trimmed
+    ensures trim { report_text (named (codes "A") ∷ []) trimmed_outcome
         ≡ codes "#rasq report 1\n#session A\n1 1 value 1\nrow [1:2,1:2] 5 6 9 10\n#history\nbegun 1 session 1 statement 1\n"
         ++ codes "granted 1 1 phase 1: S collection G\ngranted 1 1 phase 2: S domain G 1\n"
         ++ codes "granted 1 1 phase 4: S tile G 1 [0,0], S tile G 1 [0,1], S tile G 1 [1,0], S tile G 1 [1,1]\n"

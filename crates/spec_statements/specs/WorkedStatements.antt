@@ -21,7 +21,7 @@ use Rattle.ras_syntax.specs.declared.statement.Statement.{Statement}
 use Rattle.ras_syntax.specs.declared.statement.StatementForm.{StatementForm}
 use Rattle.ras_syntax.specs.declared.statement.StatementForm.TheVariants.{Create, Drop}
 use Rattle.spec_statements.specs.WorkedChecks.{H_, letter, word}
-use Rattle.spec_expressions.specs.Worked.{worked_array, axis, char, term, first_coordinate, four_and, line, n, naturals, op, somewhere, square}
+use Rattle.spec_expressions.specs.Worked.{worked_array, axis, char, term, first_coordinate, four_and, line_box, n, naturals, op, somewhere, square}
 
 -- a set type with tiles of two by two
 abbrev pub grey : SetType
@@ -98,7 +98,7 @@ abbrev pub N : List ℕ
 N = codes "N"
 
 abbrev pub with_N : Database
-with_N = (N, record { set_type = 1; next = 2; arrays = (1, worked_array line (λ p. first_coordinate p ∷ [])) ∷ [] }) ∷ []
+with_N = (N, record { set_type = 1; next = 2; arrays = (1, worked_array line_box (λ p. first_coordinate p ∷ [])) ∷ [] }) ∷ []
 
 abbrev pub from_N : CheckedSource
 from_N = record { collection = N; iterator = codes "a"; of = nil }

@@ -19,7 +19,7 @@ ghost use Rattle.ras_syntax.specs.declared.answer.RowValue.TheVariants as rows;
 ghost use Rattle.spec_statements.specs.Statement.{create, delete, drop, insert, select, update};
 ghost use Rattle.ras_syntax.specs.declared.expr.CellsFold.TheVariants as folds;
 ghost use Rattle.spec_expressions.specs.Tree.{domain_of, edge, folded, index, marray, no_axes, no_trees, oid, own, truth, always, only_where, position, shift, trees, trim};
-ghost use Rattle.spec_expressions.specs.Worked.{a, worked_array, axis, term, first_coordinate, four_and, from_to, line, minus, n, naturals, nothing, op, p, somewhere, square, trimmed, R_, a_};
+ghost use Rattle.spec_expressions.specs.Worked.{a, worked_array, axis, term, first_coordinate, four_and, from_to, line_box, minus, n, naturals, nothing, op, p, somewhere, square, trimmed, R_, a_};
 ghost use Rattle.ras_syntax.specs.declared.statement.StatementForm.TheVariants as written;
 ghost use Rattle.spec_statements.specs.WorkedChecks.{G_, H_, span_from, b_, letter, name_from, number_from, source, word};
 ghost use Rattle.spec_statements.specs.WorkedStatements.{N, statement_as_written, create_H, declared, drop_H, by_coordinate, by_coordinate_or, domain_of_N, from_sevens, select_ids, from_N, line_made, many_arrays, narrow, nil, scalars, second_N, update_line, whole, with_N, collection_lock, first_locks, G, base_database, domain_of_G, from_G, grey, has_oid, one_cell_at, select_all, select_where, statement, tile_of_G, two_trims, update_at, update_at_place};
@@ -110,7 +110,7 @@ pub fn faults_of_statements()
 pub fn nulls_in_statements()
     // insert into N values marray p in [4:5]
     //   values condense max over q in [0:0] where false using 1
-    ensures stored { effect_of_checked (statement (insert N nil (line_made 4 5 nothing))) with_N ≡ (N, record { set_type = 1; next = 3; arrays = (1, worked_array line (λ p. first_coordinate p ∷ [])) ∷ (2, worked_array (axis (pos 4) (pos 5) ∷ []) (λ p. pos 0 ∷ [])) ∷ [] }) ∷ [] }
+    ensures stored { effect_of_checked (statement (insert N nil (line_made 4 5 nothing))) with_N ≡ (N, record { set_type = 1; next = 3; arrays = (1, worked_array line_box (λ p. first_coordinate p ∷ [])) ∷ (2, worked_array (axis (pos 4) (pos 5) ∷ []) (λ p. pos 0 ∷ [])) ∷ [] }) ∷ [] }
     // insert into G values marray p in [0:0, 0:0]
     //   values condense max over q in [0:0] where false using 1
     ensures no_null_value { reply_of_checked (statement (insert G grey (one_cell_at 0 0 nothing))) base_database ≡ faulty 1 (pos 0 ∷ pos 0 ∷ []) NullStore }
@@ -303,7 +303,7 @@ pub fn statements_as_they_are_written()
 pub fn replies_of_answers()
     ensures done { reply_of_answer (answers.Done 3) ≡ done 3 }
     ensures fault { reply_of_answer (answers.Fault 2 (record { items = pos 1 ∷ [] }) CastRange) ≡ faulty 2 (pos 1 ∷ []) CastRange }
-    ensures values { reply_of_answer (answers.Value (rows.Domain square ∷ rows.Array line (record { width = 1; cells = naturals (0 ∷ 1 ∷ 2 ∷ 3 ∷ []); room = 9 }) ∷ [])) ≡ values (one_domain square ∷ all_cells line (naturals (0 ∷ 1 ∷ 2 ∷ 3 ∷ [])) ∷ []) }
+    ensures values { reply_of_answer (answers.Value (rows.Domain square ∷ rows.Array line_box (record { width = 1; cells = naturals (0 ∷ 1 ∷ 2 ∷ 3 ∷ []); room = 9 }) ∷ [])) ≡ values (one_domain square ∷ all_cells line_box (naturals (0 ∷ 1 ∷ 2 ∷ 3 ∷ [])) ∷ []) }
 {}
 
 /// What a lock shows of a database: nothing of what isn't there, and no point at a place that has

@@ -20,7 +20,7 @@ use Rattle.ras_syntax.specs.declared.types.SetType.{SetType}
 use Rattle.spec_expressions.specs.SetTypes.{AreTypes, HasComponents, IsSetType}
 use Rattle.spec_grammar.specs.Tokens.{Text, is_same}
 use Rattle.law_lists.proofs.Each.{each_passes, each_weaker, none_passes}
-use Rattle.spec_workloads.specs.TypeLines.{are_all_apart, has_components, is_axis, is_null_set, is_one_to, is_set_type, is_small_bound, is_wide, may_be_declared}
+use Rattle.spec_workloads.specs.TypeLines.{are_all_apart, has_components, is_bounded_axis, is_null_set, is_one_to, is_set_type, is_small_bound, is_wide, may_be_declared}
 
 -- ---- tests
 
@@ -63,10 +63,10 @@ differing a b = not (is_same a b)
 differing-tells : (a b : Text) → differing a b ≡ true → a ≢ b
 differing-tells a b is = differ a b (not-true (is_same a b) is)
 
-axis-small : (axis : Interval) → is_axis axis ≡ true → HasSmallBounds axis
+axis-small : (axis : Interval) → is_bounded_axis axis ≡ true → HasSmallBounds axis
 axis-small axis is = grind arith
 
-axis-ordered : (axis : Interval) → is_axis axis ≡ true → IsOrdered axis
+axis-ordered : (axis : Interval) → is_bounded_axis axis ≡ true → IsOrdered axis
 axis-ordered axis is = int_le-true axis.lo axis.hi (and_parts (is_small_bound axis.lo && is_small_bound axis.hi) (int_le axis.lo axis.hi) is).1
 
 wide-tells : (atom : Atom) → not (is_wide atom) ≡ true → atom ≢ Wide
@@ -113,8 +113,8 @@ set_type-tells of is =
     record {
       some_axes = count.0;
       few_axes = count.1;
-      small_bounds = passing is_axis HasSmallBounds axis-small of.bounds.items axes.1;
-      ordered_bounds = passing is_axis IsOrdered axis-ordered of.bounds.items axes.1;
+      small_bounds = passing is_bounded_axis HasSmallBounds axis-small of.bounds.items axes.1;
+      ordered_bounds = passing is_bounded_axis IsOrdered axis-ordered of.bounds.items axes.1;
       each_extent = eqb-true (length of.extents.items) (length of.bounds.items) extents.1;
       some_extent = passing (λ extent. leb 1 extent) (λ extent. 1 ≤ extent) (λ extent. leb-true 1 extent) of.extents.items some.1;
       few_cells = leb-true (fold ◌*◌ 1 of.extents.items) MAX_TILE_CELLS cells.1;

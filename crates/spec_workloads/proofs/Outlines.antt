@@ -9,10 +9,10 @@ use Rattle.ras_syntax.specs.declared.types.SetType.{SetType}
 use Rattle.spec_expressions.specs.SetTypes.{AreTypes}
 use Rattle.spec_grammar.specs.Tokens.{Text, is_same}
 use Rattle.law_lists.proofs.Each.{each_weaker, none_passes}
-use Rattle.spec_workloads.specs.declared.TheConstants.{MAX_SESSIONS, MAX_STATEMENTS}
+use Rattle.ras_syntax.specs.declared.limits.TheConstants.{MAX_SESSIONS, MAX_STATEMENTS}
 use Rattle.spec_workloads.specs.Outline.{Due, Heading, IsOutline, Outline, OutlineFault, all, bad_heading, bad_type, begun_pieces, begun_with, closed_before, end, heading_of}
 use Rattle.spec_workloads.specs.Outline.{is_taken, may_have_setup, may_have_types, no_outline, none_beyond, nothing_behind, outline_after, outline_in, outline_of, provided, session}
-use Rattle.spec_workloads.specs.Outline.{session_due, sessions_on, setup, setup_on, statements_of, title, titled, too_many_sessions, types, types_after, types_of, unknown}
+use Rattle.spec_workloads.specs.Outline.{session_due, sessions_on, setup, setup_on, section_statements, title, titled, too_many_sessions, types, types_after, types_of, unknown}
 use Rattle.spec_workloads.specs.Outline.{with_section, with_type}
 use Rattle.spec_workloads.specs.Sections.{Piece, Pieces, Section, headed, pieces_of}
 use Rattle.spec_workloads.specs.TypeLines.{may_be_declared, type_of_line}
@@ -73,8 +73,8 @@ few_closed pieces few = simp length-map (at pieces.rest.text few)
     at [] few = few
     at (b ∷ bytes) few = omega (arith, length-append pieces.closed (pieces.rest ∷ []), few)
 
-statements_of-few : (section : Section) (later : List Section) (found : List Text) → statements_of section later ≡ Ok found → length found ≤ MAX_STATEMENTS
-statements_of-few section later found is =
+section_statements-few : (section : Section) (later : List Section) (found : List Text) → section_statements section later ≡ Ok found → length found ≤ MAX_STATEMENTS
+section_statements-few section later found is =
     let pieces : Pieces = pieces_of section in
     let texts : List Text = map (λ piece. piece.text) pieces.closed in
     let (none, few, closed) = bind_ok (none_beyond (drop MAX_STATEMENTS (begun_pieces pieces))) (λ few. closed_before pieces.rest.text later texts) found is in
@@ -131,23 +131,23 @@ with_section-is due outline section later types goes_on found is then is_found =
     }) rest
 with_section-is due outline section later setup goes_on found is then is_found =
     let next : List Text → Result (Outline × ℕ) OutlineFault = λ texts. goes_on sessions_on (record outline { setup = texts }) in
-    let (may, behind) = provided_ok (may_have_setup due) (bad_heading section.line) (statements_of section later >>= next) found is_found in
-    let (texts, one, rest) = bind_ok (statements_of section later) next found behind in
+    let (may, behind) = provided_ok (may_have_setup due) (bad_heading section.line) (section_statements section later >>= next) found is_found in
+    let (texts, one, rest) = bind_ok (section_statements section later) next found behind in
     then sessions_on (record outline { setup = texts }) (record {
       types = is.types;
-      few_in_setup = statements_of-few section later texts one;
+      few_in_setup = section_statements-few section later texts one;
       few_sessions = is.few_sessions;
       few_in_sessions = is.few_in_sessions;
       names_differ = is.names_differ;
     }) rest
 with_section-is due outline section later (session name) goes_on found is then is_found =
-    let (free, one, rest) = bind_ok (session_due section.line name outline.scripts) (λ free. statements_of section later >>= λ found.
+    let (free, one, rest) = bind_ok (session_due section.line name outline.scripts) (λ free. section_statements section later >>= λ found.
     goes_on sessions_on (record outline { scripts = outline.scripts ++ record { name = free; statements = found } ∷ [] })) found is_found in
-    let (texts, two, last) = bind_ok (statements_of section later)
+    let (texts, two, last) = bind_ok (section_statements section later)
     (λ found. goes_on sessions_on (record outline { scripts = outline.scripts ++ record { name = free; statements = found } ∷ [] })) found rest in
     let room = session-free section.line name outline.scripts free one in
     then sessions_on (record outline { scripts = outline.scripts ++ record { name = free; statements = texts } ∷ [] })
-    (with_script outline free texts is room.0 room.1 (statements_of-few section later texts two)) last
+    (with_script outline free texts is room.0 room.1 (section_statements-few section later texts two)) last
 
 after-is : (due : Due) (outline : Outline) (sections : List Section) (found : Outline × ℕ) → IsOutline outline → outline_after due outline sections ≡ Ok found → IsOutline found.0
 after-is due outline [] found is is_found = absurd cc

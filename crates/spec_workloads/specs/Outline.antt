@@ -7,7 +7,7 @@ use Rattle.ras_syntax.specs.declared.types.Script.{Script}
 use Rattle.ras_syntax.specs.declared.types.SetType.{SetType}
 use Rattle.spec_expressions.specs.SetTypes.{AreTypes}
 use Rattle.spec_grammar.specs.Tokens.{Text, after_space, begins_name, begins_with, continues_name, first_is, in_small_letters, is_one_of, is_same, reserved_words, space_length}
-use Rattle.spec_workloads.specs.declared.TheConstants.{MAX_SESSIONS, MAX_STATEMENTS}
+use Rattle.ras_syntax.specs.declared.limits.TheConstants.{MAX_SESSIONS, MAX_STATEMENTS}
 use Rattle.spec_workloads.specs.Sections.{Piece, Pieces, Section, headed, line_feeds, pieces_of}
 use Rattle.spec_workloads.specs.TypeLines.{may_be_declared, type_of_line}
 
@@ -103,8 +103,8 @@ abbrev pub none_beyond : List Piece → Result (List Text) OutlineFault
 none_beyond [] = Ok []
 none_beyond (piece ∷ pieces) = Err (too_many_statements piece.line)
 
-abbrev pub statements_of : Section → List Section → Result (List Text) OutlineFault
-statements_of section later = do
+abbrev pub section_statements : Section → List Section → Result (List Text) OutlineFault
+section_statements section later = do
   few ← none_beyond (drop MAX_STATEMENTS (begun_pieces (pieces_of section)))
   closed_before (pieces_of section).rest.text later (map (λ piece. piece.text) (pieces_of section).closed)
 
@@ -141,10 +141,10 @@ with_section due outline section later types goes_on =
     (types_of section later >>= λ found. goes_on setup_on (record outline { types = found }))
 with_section due outline section later setup goes_on =
     provided (may_have_setup due) (bad_heading section.line)
-    (statements_of section later >>= λ found. goes_on sessions_on (record outline { setup = found }))
+    (section_statements section later >>= λ found. goes_on sessions_on (record outline { setup = found }))
 with_section due outline section later (session name) goes_on = do
   free ← session_due section.line name outline.scripts
-  found ← statements_of section later
+  found ← section_statements section later
   goes_on sessions_on (record outline { scripts = outline.scripts ++ record { name = free; statements = found } ∷ [] })
 
 -- the outline of what was read so far and of the sections that follow, with the place behind the last heading

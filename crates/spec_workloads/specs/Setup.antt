@@ -66,13 +66,13 @@ pub data WorkloadFaultValue : Type 0 where
   no_outline : OutlineFault → WorkloadFaultValue
   setup_failed : ℕ → SetupFault → WorkloadFaultValue
 
-abbrev pub with_place : ℕ → Result WorkloadValue (ℕ × SetupFault) → Result (WorkloadValue × ℕ) WorkloadFaultValue
-with_place behind (Ok workload) = Ok (workload, behind)
-with_place behind (Err fault) = Err (setup_failed fault.0 fault.1)
+abbrev pub workload_with_place : ℕ → Result WorkloadValue (ℕ × SetupFault) → Result (WorkloadValue × ℕ) WorkloadFaultValue
+workload_with_place behind (Ok workload) = Ok (workload, behind)
+workload_with_place behind (Err fault) = Err (setup_failed fault.0 fault.1)
 
 abbrev pub with_setup : Result (Outline × ℕ) OutlineFault → Result (WorkloadValue × ℕ) WorkloadFaultValue
 with_setup (Err fault) = Err (no_outline fault)
-with_setup (Ok found) = with_place found.1 (workload_of_outline found.0)
+with_setup (Ok found) = workload_with_place found.1 (workload_of_outline found.0)
 
 -- the workload of a text, and the place behind the line of its last heading
 abbrev pub workload_of : Text → Result (WorkloadValue × ℕ) WorkloadFaultValue

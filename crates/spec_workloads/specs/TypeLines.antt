@@ -91,12 +91,12 @@ abbrev pub or_bound : ℤ → Option ℤ → ℤ
 or_bound limit None = limit
 or_bound limit (Some z) = z
 
-abbrev pub interval : Option ℤ → Option ℤ → Interval
-interval lo hi = record { lo = or_bound (negsuc 2147483647) lo; hi = or_bound (pos 2147483647) hi }
+abbrev pub told_interval : Option ℤ → Option ℤ → Interval
+told_interval lo hi = record { lo = or_bound (negsuc 2147483647) lo; hi = or_bound (pos 2147483647) hi }
 
 -- bounds := "[" bound ":" bound {{ "," bound ":" bound }} "]"
 abbrev pub bounds_read : Reader (List Interval)
-bounds_read = bracketed (bind bound_read (λ lo. expect (s ":") (mapped (λ hi. interval lo hi) bound_read)))
+bounds_read = bracketed (bind bound_read (λ lo. expect (s ":") (mapped (λ hi. told_interval lo hi) bound_read)))
 
 -- extents := "[" "0" ":" number {{ "," "0" ":" number }} "]"; a tile takes the coordinates from 0 to the number
 abbrev pub extents_read : Reader (List ℕ)
@@ -124,8 +124,8 @@ abbrev pub nulls_for : Option (List (ℤ × ℤ)) → List (ℤ × ℤ)
 nulls_for None = []
 nulls_for (Some nulls) = nulls
 
-abbrev pub set_type_of : Text → TypedCells → List Interval → Option (List ℕ) → Option (List (ℤ × ℤ)) → SetType
-set_type_of name cells bounds extents nulls = record {
+abbrev pub declared_type_of : Text → TypedCells → List Interval → Option (List ℕ) → Option (List (ℤ × ℤ)) → SetType
+declared_type_of name cells bounds extents nulls = record {
   name = name;
   cell = cells.cell;
   names = cells.names;
@@ -138,7 +138,7 @@ set_type_of name cells bounds extents nulls = record {
 abbrev pub type_read : Reader SetType
 type_read = after_word (codes "type") (accept free_name (λ name. expect (s "=") (bind cells_read (λ cells. bind bounds_read (λ bounds.
     bind (optional_after_word (codes "tiles") extents_read) (λ extents.
-    mapped (λ nulls. set_type_of name cells bounds extents nulls) (optional_after_word (codes "null") nulls_read)))))))
+    mapped (λ nulls. declared_type_of name cells bounds extents nulls) (optional_after_word (codes "null") nulls_read)))))))
 
 abbrev pub if_whole : ReadOutcome SetType → Option SetType
 if_whole (Ok (of, [])) = Some of
@@ -161,8 +161,8 @@ type_of_line text = type_in (lexed text)
 abbrev pub is_small_bound : ℤ → Truth
 is_small_bound z = int_le (negsuc 2147483647) z && int_le z (pos 2147483647)
 
-abbrev pub is_axis : Interval → Truth
-is_axis axis = is_small_bound axis.lo && is_small_bound axis.hi && int_le axis.lo axis.hi
+abbrev pub is_bounded_axis : Interval → Truth
+is_bounded_axis axis = is_small_bound axis.lo && is_small_bound axis.hi && int_le axis.lo axis.hi
 
 abbrev pub is_one_to : ℕ → ℕ → Truth
 is_one_to most n = nat_le 1 n && nat_le n most
@@ -190,7 +190,7 @@ is_wide atom = false
 abbrev pub is_set_type : SetType → Truth
 is_set_type of =
     is_one_to MAX_AXES (length of.bounds.items)
-    && list_all is_axis of.bounds.items
+    && list_all is_bounded_axis of.bounds.items
     && (length of.extents.items == length of.bounds.items)
     && list_all (λ extent. nat_le 1 extent) of.extents.items
     && nat_le (fold ◌*◌ 1 of.extents.items) MAX_TILE_CELLS

@@ -40,8 +40,8 @@ base_text = base_with (codes "#session A\nselect a[1:2,0] from G as a;\n")
 abbrev pub whole_axis : Interval
 whole_axis = record { lo = negsuc 2147483647; hi = pos 2147483647 }
 
-abbrev pub grey_set : SetType
-grey_set = record {
+abbrev pub declared_grey : SetType
+declared_grey = record {
   name = codes "GreySet";
   cell = cells.Atom Char;
   names = [];
@@ -50,8 +50,8 @@ grey_set = record {
   nulls = record { items = [] };
 }
 
-abbrev pub nil_set : SetType
-nil_set = record {
+abbrev pub declared_nil : SetType
+declared_nil = record {
   name = codes "NilSet";
   cell = cells.Atom Char;
   names = [];
@@ -61,8 +61,8 @@ nil_set = record {
 }
 
 -- 4096 coordinates a tile, since its line tells no tiles
-abbrev pub rgb_set : SetType
-rgb_set = record {
+abbrev pub declared_rgb : SetType
+declared_rgb = record {
   name = codes "RgbSet";
   cell = cells.Composite (record { items = Char ∷ Char ∷ Char ∷ [] });
   names = codes "red" ∷ codes "green" ∷ codes "blue" ∷ [];
@@ -73,7 +73,7 @@ rgb_set = record {
 
 abbrev pub base_outline : Outline
 base_outline = record {
-  types = grey_set ∷ nil_set ∷ rgb_set ∷ [];
+  types = declared_grey ∷ declared_nil ∷ declared_rgb ∷ [];
   setup =
       codes "create collection G GreySet"
       ∷ codes "insert into G values marray p in [0:3,0:3] values 4*p[0]+p[1]"

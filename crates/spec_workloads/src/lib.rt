@@ -5,9 +5,3 @@
 pub mod laws;
 pub mod worked_outlines;
 pub mod worked_workloads;
-
-/// The most sessions of a workload.
-pub const MAX_SESSIONS: u64 = 64;
-
-/// The most statements of a session and of the setup.
-pub const MAX_STATEMENTS: u64 = 10_000;

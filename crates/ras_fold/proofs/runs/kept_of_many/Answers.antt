@@ -4,9 +4,9 @@ use Rattle.std.specs.Prelude.{FitsSigned}
 use Rattle.std.proofs.lemmas.Int.{ints, to_z-of_z}
 use Rattle.ras_cells.specs.declared.atom.Atom.TheVariants.{Wide}
 use Rattle.ras_cells.specs.Atoms.{IsInRange}
-use Rattle.ras_fold.specs.Kept.{kept_of}
+use Rattle.ras_fold.specs.Kept.{number_kept}
 use Rattle.ras_fold.proofs.Folded.{product-within-all, IsKeptOf-one}
-use Rattle.ras_fold.proofs.Same.{kept_of-multiple, kept_of-power, kept_of-once, multiple-within, again}
+use Rattle.ras_fold.proofs.Same.{number_kept-multiple, number_kept-power, number_kept-once, multiple-within, again}
 use Rattle.ras_fold.proofs.runs.kept_of_many.Goals as goal
 
 -- the sum, as it is returned
@@ -17,7 +17,7 @@ sum c =
 
 pub returns-in-Plus-clause-kept : goal.returns-in-Plus-clause-kept
 returns-in-Plus-clause-kept c = λ numbers same count.
-    rw c.in-Plus.is (ap Some (sum c) ∙ sym (kept_of-multiple c.args.number numbers c.args.times same count))
+    rw c.in-Plus.is (ap Some (sum c) ∙ sym (number_kept-multiple c.args.number numbers c.args.times same count))
 
 pub returns-in-Plus-clause-bounds : goal.returns-in-Plus-clause-bounds
 returns-in-Plus-clause-bounds c = λ z e.
@@ -26,7 +26,7 @@ returns-in-Plus-clause-bounds c = λ z e.
 pub returns-in-Times-clause-kept : goal.returns-in-Times-clause-kept
 returns-in-Times-clause-kept c = λ numbers same count.
     let product = rw (to_z-of_z w64 _ c.ranges.number) at c.power.ensures in
-    rw c.in-Times.is (product ∙ sym (kept_of-power c.args.number numbers c.args.times same count))
+    rw c.in-Times.is (product ∙ sym (number_kept-power c.args.number numbers c.args.times same count))
 
 pub returns-in-Times-clause-bounds : goal.returns-in-Times-clause-bounds
 returns-in-Times-clause-bounds c = λ z e.
@@ -38,6 +38,6 @@ returns-in_default c =
     let one = rw (to_z-of_z w64 _ c.ranges.number) at c.kept_of_one.ensures in
     let ranged : IsInRange Wide c.args.number = (omega (arith, ints, c.ranges.number), omega (arith, ints, c.ranges.number)) in
     record {
-      kept = λ numbers same count. one ∙ sym (kept_of-once c.args.op c.args.number numbers c.args.times c.in_default.not-Plus c.in_default.not-Times (omega arith) same count);
-      bounds = rw one (again c.args.op c.args.times (kept_of c.args.op (c.args.number ∷ [])) c.in_default.not-Plus (IsKeptOf-one c.args.op c.args.number ranged));
+      kept = λ numbers same count. one ∙ sym (number_kept-once c.args.op c.args.number numbers c.args.times c.in_default.not-Plus c.in_default.not-Times (omega arith) same count);
+      bounds = rw one (again c.args.op c.args.times (number_kept c.args.op (c.args.number ∷ [])) c.in_default.not-Plus (IsKeptOf-one c.args.op c.args.number ranged));
     }

@@ -1,7 +1,7 @@
 use Rattle.ras_kernel.specs.Numbers.{unless_null}
-use Rattle.ras_kernel.specs.Runs.{HoldsBelow, is_null, number_in}
+use Rattle.ras_kernel.specs.Runs.{HoldsBelow, is_null, run_number}
 use Rattle.ras_kernel.proofs.unary.one_by_one.Given as goal
 
 abbrev pub invariant-loop-i : goal.invariant-loop-i
 invariant-loop-i g l =
-    HoldsBelow (λ k. unless_null (is_null l.nulls k) (g.O.Unary.outcome l.operation (number_in l.a k))) l.i l.out l.nulls
+    HoldsBelow (λ k. unless_null (is_null l.nulls k) (g.O.Unary.outcome l.operation (run_number l.a k))) l.i l.out l.nulls

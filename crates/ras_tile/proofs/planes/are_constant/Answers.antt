@@ -1,7 +1,7 @@
 use Rattle.std.proofs.Common.{◌≡◌, ◌<◌, ℕ, ap, sym, ◌∙◌, take, arith, rules}
 use Rattle.std.proofs.lemmas.List.{take_all}
-use Rattle.ras_tile.specs.Planes.{number_at, number_in, cell_in, HasNumbers}
-use Rattle.ras_tile.proofs.Cells.{number_in-at, All-at, equal_more}
+use Rattle.ras_tile.specs.Planes.{listed_number, plane_number, cell_of_planes, HasNumbers}
+use Rattle.ras_tile.proofs.Cells.{plane_number-at, All-at, equal_more}
 use Rattle.ras_tile.proofs.planes.are_constant.Goals as goal
 
 pub returns-then-not-is_constant : goal.returns-then-not-is_constant
@@ -11,11 +11,11 @@ returns-then-not-is_constant c =
       λ same.
           let plane = c.plane-item.result in
           let here : HasNumbers n plane = All-at (HasNumbers n) c.args.planes.now c.loop-plane.plane-index plane c.loop-plane-test.true c.plane-item.is whole in
-          let equal : (k : ℕ) → k < n → number_in plane k ≡ number_in plane 0 =
+          let equal : (k : ℕ) → k < n → plane_number plane k ≡ plane_number plane 0 =
           λ k below.
-          number_in-at c.args.planes.now c.loop-plane.plane-index plane k c.loop-plane-test.true c.plane-item.is
-          ∙ ap (λ cell. number_at cell c.loop-plane.plane-index) (same k below)
-          ∙ sym (number_in-at c.args.planes.now c.loop-plane.plane-index plane 0 c.loop-plane-test.true c.plane-item.is) in
+          plane_number-at c.args.planes.now c.loop-plane.plane-index plane k c.loop-plane-test.true c.plane-item.is
+          ∙ ap (λ cell. listed_number cell c.loop-plane.plane-index) (same k below)
+          ∙ sym (plane_number-at c.args.planes.now c.loop-plane.plane-index plane 0 c.loop-plane-test.true c.plane-item.is) in
           let yes = (c.is_constant.ensures n here).1 equal in
           absurd cc,
     )
@@ -33,6 +33,6 @@ returns c =
     λ n whole. (
       λ yes k below.
           let all : take c.loop-plane.plane-index c.args.planes.now ≡ c.args.planes.now = take_all c.loop-plane.plane-index c.args.planes.now (omega arith) in
-          ap (λ planes. cell_in planes k) (sym all) ∙ c.loop-plane.invariant n whole k below ∙ ap (λ planes. cell_in planes 0) all,
+          ap (λ planes. cell_of_planes planes k) (sym all) ∙ c.loop-plane.invariant n whole k below ∙ ap (λ planes. cell_of_planes planes 0) all,
       λ same. search rules,
     )

@@ -3,7 +3,7 @@ use Rattle.std.specs.List.{refill}
 use Rattle.std.proofs.lemmas.List.{take_at}
 use Rattle.ras_domain.specs.Region.{IsIn, points_of, place_in_rows}
 use Rattle.ras_tile.proofs.RowPlaces.{place-within}
-use Rattle.ras_tile.specs.Planes.{number_in}
+use Rattle.ras_tile.specs.Planes.{plane_number}
 use Rattle.ras_tile.specs.Stored.{along}
 use Rattle.ras_tile.proofs.Cells.{Reaches-within}
 use Rattle.ras_tile.proofs.Copying.{IsCopying, done_of, IsCopying-first, IsCopying-within, IsCopying-more, IsCopying-copied, IsCopying-others, row_fits}
@@ -66,7 +66,7 @@ copy_cells-requires-clause-from_within c =
 
 -- one more row
 more : (c : goal.After-next_point-next)
-    → IsCopying c.args.to_box.now c.args.from_box.now c.args.region.now c.args.to.now (number_in c.args.from.now) c.copy_cells.new.to (option_map (λ p. p.items) c.next_point-next.result)
+    → IsCopying c.args.to_box.now c.args.from_box.now c.args.region.now c.args.to.now (plane_number c.args.from.now) c.copy_cells.new.to (option_map (λ p. p.items) c.next_point-next.result)
     × (done_of c.args.region.now (option_map (λ p. p.items) c.next_point-next.result) ≡ place_in_rows c.args.region.now c.in-Some.p.items + (c.finish_row-steps.result + 1))
 more c =
     let end : IsIn (along c.in-Some.p.items c.finish_row-steps.result) c.args.region.now =

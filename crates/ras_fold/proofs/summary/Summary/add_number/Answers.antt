@@ -3,7 +3,7 @@ use Rattle.std.specs.Prelude.{FitsSigned}
 use Rattle.std.proofs.lemmas.Int.{ints, to_z-of_z}
 use Rattle.ras_cells.specs.declared.atom.Atom.TheVariants.{Wide}
 use Rattle.ras_cells.specs.Atoms.{IsInRange}
-use Rattle.ras_fold.specs.Kept.{joined, kept_of}
+use Rattle.ras_fold.specs.Kept.{joined, number_kept}
 use Rattle.ras_fold.proofs.Folded.{IsKeptOf-within, IsKeptOf-joined, IsKeptOf-one}
 use Rattle.ras_fold.proofs.Summaries.{value_with_numbers}
 use Rattle.ras_fold.proofs.summary.Summary.add_number.Goals as goal
@@ -14,7 +14,7 @@ join-self-inside-requires-clause-a c =
     IsKeptOf-within s.op s.count s.kept c.self.invariant.0 c.self.invariant.1
 
 -- what is kept in the end
-kept : (c : goal.After-self-in-Some-1) → c.join-self-inside.result ≡ joined c.self.inside.op c.self.inside.kept (kept_of c.self.inside.op (c.in-Some.number ∷ []))
+kept : (c : goal.After-self-in-Some-1) → c.join-self-inside.result ≡ joined c.self.inside.op c.self.inside.kept (number_kept c.self.inside.op (c.in-Some.number ∷ []))
 kept c =
     let fits : FitsSigned w64 c.in-Some.number = search rules in
     let one = rw (to_z-of_z w64 _ fits) at c.kept_of_one.ensures in

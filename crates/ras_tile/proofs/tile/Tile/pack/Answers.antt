@@ -2,7 +2,7 @@ use Rattle.std.proofs.Common.{◌≡◌, ◌<◌, false, length, ◌∙◌, ap, 
 use Rattle.ras_cells.specs.Atoms.{AreInRange}
 use Rattle.ras_cells.specs.Stored.{atoms_of}
 use Rattle.ras_domain.specs.Region.{points_of}
-use Rattle.ras_tile.specs.Planes.{cell_in, cells_in}
+use Rattle.ras_tile.specs.Planes.{cell_of_planes, cells_in}
 use Rattle.ras_tile.proofs.Tiles.{IsStored-packed_planes, IsTile-stored, tile_of-packed, some_points, in_range_at, length-in_range}
 use Rattle.ras_tile.proofs.tile.Tile.pack.Goals as goal
 
@@ -47,7 +47,7 @@ returns-clause-packed c =
     rw (c.copy_of.ensures, c.atoms_in.ensures, c.atoms-2.ensures.atoms, ← c.self.view_is)
     (tile_of-packed c.self.inside.region c.self.inside.atoms.items (atoms_of c.args.of.now) c.self.inside.planes.items c.in_ok-planes.planes.items c.self.inside.writable
     (sym (long c) ∙ c.in_ok-planes.ensures.long ∙ ap length c.as_slice.ensures.value ∙ c.self.invariant.each_atom)
-    (λ k below. c.in_ok-planes.ensures.cells k (omega (arith, c.volume-cells.ensures)) ∙ ap (λ planes. cell_in planes k) c.as_slice.ensures.value))
+    (λ k below. c.in_ok-planes.ensures.cells k (omega (arith, c.volume-cells.ensures)) ∙ ap (λ planes. cell_of_planes planes k) c.as_slice.ensures.value))
 
 pub returns-clause-tile : goal.returns-clause-tile
 returns-clause-tile c = IsTile-stored c.copy_of.result c.atoms_in.result.items c.in_ok-planes.planes.items false (invariant_of-result c)

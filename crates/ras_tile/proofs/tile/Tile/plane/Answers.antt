@@ -1,8 +1,8 @@
 use Rattle.std.proofs.Common.{◌≡◌, ◌<◌, ℕ, length, ap, sym, ◌∙◌, subst, arith}
 use Rattle.ras_domain.specs.Region.{points_of}
-use Rattle.ras_tile.specs.Planes.{cells_in, HasNumbers, number_in}
+use Rattle.ras_tile.specs.Planes.{cells_in, HasNumbers, plane_number}
 use Rattle.ras_tile.specs.Cells.{numbers_of}
-use Rattle.ras_tile.proofs.Cells.{All-at, length-numbers_of, number_at-numbers_of}
+use Rattle.ras_tile.proofs.Cells.{All-at, length-numbers_of, listed_number-numbers_of}
 use Rattle.ras_tile.proofs.Tiles.{uniform_where_equal, packed_where_not, plain_where_writable}
 use Rattle.ras_tile.proofs.tile.Tile.plane.Goals as goal
 
@@ -21,8 +21,8 @@ returns-clause-numbers c =
     (c.lent.ensures.numbers (numbers_of c.args.component (cells_in planes n))
     (subst (λ (m : ℕ). HasNumbers m c.index.result.now) (sym long) (All-at (HasNumbers n) planes c.args.component c.index.result.now (within c) c.index.ensures c.self.invariant.whole))
     (λ k below.
-    number_at-numbers_of c.args.component planes c.index.result.now n k (within c) (omega (arith, long))
-    ∙ ap (λ plane. number_in plane k) (sym c.index.ensures)))
+    listed_number-numbers_of c.args.component planes c.index.result.now n k (within c) (omega (arith, long))
+    ∙ ap (λ plane. plane_number plane k) (sym c.index.ensures)))
 
 pub returns-clause-writable : goal.returns-clause-writable
 returns-clause-writable c =
