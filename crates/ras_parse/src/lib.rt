@@ -8,20 +8,16 @@ mod fault;
 mod forms;
 mod grammar;
 pub mod laws;
-mod lexer;
+pub mod lexer;
 pub mod lists;
 mod operators;
 mod parts;
 mod primary;
-mod reading;
+pub mod reading;
 mod session;
 mod statement;
-#[cfg(test)]
-mod statement_tests;
 pub mod stop;
 pub mod tables;
-#[cfg(test)]
-mod tests;
 pub mod token;
 mod verdict;
 mod whole;

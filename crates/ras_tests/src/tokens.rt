@@ -1,9 +1,8 @@
-use crate::fault::ParseFault;
-use crate::lexer::next_token;
-use crate::reading::{Behind, Front, front_of, tokens};
-use crate::session::session_word;
-use crate::token::{Next, Token, TokenKind};
 use ras_cells::Atom;
+use ras_parse::lexer::next_token;
+use ras_parse::reading::{Behind, Front, front_of};
+use ras_parse::token::{Next, Token, TokenKind};
+use ras_parse::{ParseFault, session_word, tokens};
 use ras_syntax::{Span, SyntaxFault, Word};
 use std::alloc::AllocError;
 use std::process::Abort;

@@ -1,5 +1,4 @@
-use crate::fault::ParseFault;
-use crate::statement::parse_statement;
+use ras_parse::{ParseFault, parse_statement};
 use ras_syntax::{ExprForm, Span, StatementForm, SyntaxFault};
 use std::alloc::AllocError;
 use std::process::Abort;
