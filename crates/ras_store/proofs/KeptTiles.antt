@@ -20,8 +20,8 @@ use Rattle.ras_domain.proofs.BoxTests.{IsIn-is_in}
 use Rattle.ras_domain.proofs.Points.{Contains-IsIn}
 use Rattle.ras_domain.proofs.PointSets.{Covers-antisym, IsMeeting-meet_of}
 use Rattle.ras_domain.proofs.RowOrder.{place_in_rows-at, points_of-ascends}
-use Rattle.ras_grid.specs.Grid.{IsGrid, Meets, grid_box, tile_stored}
-use Rattle.ras_grid.proofs.Tiles.{IsRegion-tile_stored, length-grid_box}
+use Rattle.ras_grid.specs.Grid.{IsGrid, Meets, grid_box, tile_in}
+use Rattle.ras_grid.proofs.Tiles.{IsRegion-tile_in, length-grid_box}
 use Rattle.ras_index.proofs.Slots.{row_major_exact, row_major_total}
 use Rattle.ras_tile.specs.Tile.{IsTile, TileValue, tile_cell_at}
 use Rattle.ras_store.specs.Databases.{holding_kept}
@@ -162,15 +162,15 @@ module _ (extents : List ℕ) (array : Array) (place : List ℤ) (n : ℕ) (regi
 
   -- its box is the part of the domain at its place
   pub tile-box : (tile : TileValue) → IsTile tile → option_map holding_kept (Some (tile_kept tile)) ≡ holding_of (tile_seen n there)
-      → tile.region ≡ tile_stored extents array.domain place
+      → tile.region ≡ tile_in extents array.domain place
   tile-box tile whole held =
       let parts = held_points there n tile held in
       let keys : map (λ (e : Entry). e.0) there ≡ points_of tile.region =
       ap (map (λ (e : Entry). e.0)) (sym parts.0) ∙ keys-zip (points_of tile.region) tile.cells whole.each_point in
       let meets : Meets extents place array.domain = (tile-meets (Some tile) held).1 refl in
-      let part : IsRegion (tile_stored extents array.domain place) = IsRegion-tile_stored extents array.domain place region long meets in
+      let part : IsRegion (tile_in extents array.domain place) = IsRegion-tile_in extents array.domain place region long meets in
       let both = IsMeeting-meet_of (grid_box extents place) array.domain (length-grid_box extents place meets.long ∙ sym long) in
-      Covers-antisym tile.region (tile_stored extents array.domain place) whole.box.ordered part.ordered
+      Covers-antisym tile.region (tile_in extents array.domain place) whole.box.ordered part.ordered
       (λ p in_part.
       let within = (both p).0 in_part in
       let e = there_point p meets.long within.0 within.1 in

@@ -11,7 +11,7 @@ use Rattle.std.proofs.lemmas.Map.Views.{Contains-from_lookup, tells_apart}
 use Rattle.law_lists.proofs.Each.{slice_get-All}
 use Rattle.ras_domain.specs.declared.lock.LockName.TheVariants.{Tile}
 use Rattle.ras_domain.specs.Region.{IsIn}
-use Rattle.ras_grid.specs.Grid.{Meets, tile_stored as part_in}
+use Rattle.ras_grid.specs.Grid.{Meets, tile_in as part_in}
 use Rattle.ras_syntax.specs.declared.types.SetType.{SetType}
 use Rattle.ras_tile.specs.Tile.{IsTile, TileValue, tile_cell_at}
 use Rattle.ras_store.specs.declared.store.Store.{Store}

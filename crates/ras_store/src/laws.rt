@@ -3,7 +3,7 @@ ghost use Rattle.std.specs.Prelude.{◌≡◌, ◌↔◌, ℕ, ℤ, List, Option
 ghost use Rattle.ras_domain.specs.declared.lock.LockName.{LockName};
 ghost use Rattle.ras_domain.specs.declared.lock.LockName.TheVariants.{Collection, Domain, Tile};
 ghost use Rattle.ras_domain.specs.Region.{IsIn};
-ghost use Rattle.ras_grid.specs.Grid.{Meets, tile_stored};
+ghost use Rattle.ras_grid.specs.Grid.{Meets, tile_in};
 ghost use Rattle.ras_tile.specs.Tile.{IsTile, TileValue, tile_cell_at};
 ghost use Rattle.ras_syntax.specs.declared.types.SetType.{SetType};
 ghost use Rattle.ras_store.specs.declared.change.Change.{Change};
@@ -53,7 +53,7 @@ pub fn tiles_are_those_of_the_database()
     ensures boxes { (types : List SetType) (store : Store) (database : Database) (name : List ℕ) (oid : ℕ) (place : Place)
         → AreTypes types → IsValidFor types database → Keeps types (store_kept store) database → (of : SetType) (array : Array)
         → IsArrayThere types database name oid of array → (tile : TileValue) → IsTile tile
-        → store_kept store (Tile name oid place) ≡ Some (tile_kept tile) → tile.region ≡ tile_stored of.extents.items array.domain place.items }
+        → store_kept store (Tile name oid place) ≡ Some (tile_kept tile) → tile.region ≡ tile_in of.extents.items array.domain place.items }
     ensures cells { (types : List SetType) (store : Store) (database : Database) (name : List ℕ) (oid : ℕ) (place : Place)
         → AreTypes types → IsValidFor types database → Keeps types (store_kept store) database → (of : SetType) (array : Array)
         → IsArrayThere types database name oid of array → (tile : TileValue) → IsTile tile
