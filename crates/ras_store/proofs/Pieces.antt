@@ -28,7 +28,7 @@ use Rattle.ras_store.specs.declared.change.Change.{Change}
 use Rattle.ras_store.specs.declared.collection.CollectionInfo.{CollectionInfo}
 use Rattle.ras_store.specs.declared.piece.Piece.{Piece}
 use Rattle.ras_store.specs.Kept.{Kept, changed_by, changed_by_all, collection_kept, domain_kept, is_listed, kept_tile}
-use Rattle.ras_store.specs.Piece.{IsTaken, collection_entry, domain_entry, is_same_lock_name, piece_kept, tile_entry}
+use Rattle.ras_store.specs.Piece.{IsTakenWhere, collection_entry, domain_entry, is_same_lock_name, piece_kept, tile_entry}
 use Rattle.ras_store.proofs.Listed.{by_name_total, changed_by_all-push}
 use Rattle.spec_statements.specs.Locks.{Lock}
 use Rattle.spec_statements.specs.ReachLaw.{Names}
@@ -103,14 +103,14 @@ joined true b x k = refl
 joined false b x k = refl
 
 -- nothing was taken
-pub taken-nothing : (kept : Option Kept) (same : Bool) (old : Option Kept) → kept ≡ None → IsTaken kept same old old
+pub taken-nothing : (kept : Option Kept) (same : Bool) (old : Option Kept) → kept ≡ None → IsTakenWhere kept same old old
 taken-nothing kept same old none = inr (none, refl)
 
 module _ (old new : Piece) where
   pub taken-collection : (n : List ℕ) (info : Option CollectionInfo) (kept : Option Kept)
       → new.collections.items ≡ old.collections.items ++ (n, info) ∷ [] → new.domains.items ≡ old.domains.items → new.tiles.items ≡ old.tiles.items
       → option_map collection_kept info ≡ kept → (other : LockName)
-      → IsTaken kept (is_same_lock_name (Collection n) other) (piece_kept old other) (piece_kept new other)
+      → IsTakenWhere kept (is_same_lock_name (Collection n) other) (piece_kept old other) (piece_kept new other)
   taken-collection n info kept more domains tiles is (Collection m) =
       inl
       (ap (λ es. changed_by_all (map collection_entry es) (Collection m) None) more
@@ -122,7 +122,7 @@ module _ (old new : Piece) where
   pub taken-domain : (n : List ℕ) (id : ℕ) (domain : List Interval) (kept : Option Kept)
       → new.domains.items ≡ old.domains.items ++ (n, id, domain) ∷ [] → new.collections.items ≡ old.collections.items → new.tiles.items ≡ old.tiles.items
       → Some (domain_kept domain) ≡ kept → (other : LockName)
-      → IsTaken kept (is_same_lock_name (Domain n id) other) (piece_kept old other) (piece_kept new other)
+      → IsTakenWhere kept (is_same_lock_name (Domain n id) other) (piece_kept old other) (piece_kept new other)
   taken-domain n id domain kept more collections tiles is (Domain m oid) =
       inl
       (ap (λ es. changed_by_all (map domain_entry es) (Domain m oid) None) more
@@ -135,7 +135,7 @@ module _ (old new : Piece) where
   pub taken-tile : (n : List ℕ) (id : ℕ) (at : ArrayVec ℤ) (tile : Arc TileValue Global) (kept : Option Kept)
       → new.tiles.items ≡ old.tiles.items ++ (n, id, at, tile) ∷ [] → new.collections.items ≡ old.collections.items → new.domains.items ≡ old.domains.items
       → kept_tile (Some tile) ≡ kept → (other : LockName)
-      → IsTaken kept (is_same_lock_name (Tile n id at) other) (piece_kept old other) (piece_kept new other)
+      → IsTakenWhere kept (is_same_lock_name (Tile n id at) other) (piece_kept old other) (piece_kept new other)
   taken-tile n id at tile kept more collections domains is (Tile m oid place) =
       inl
       (ap (λ es. changed_by_all (map tile_entry es) (Tile m oid place) None) more
@@ -147,7 +147,7 @@ module _ (old new : Piece) where
 
 -- ---- the names of a list one after another
 
-taken_more : (x b : Bool) (whole kept old new : Option Kept) → old ≡ cond x whole None → (b ≡ true → kept ≡ whole) → IsTaken kept b old new → new ≡ cond (x || b) whole None
+taken_more : (x b : Bool) (whole kept old new : Option Kept) → old ≡ cond x whole None → (b ≡ true → kept ≡ whole) → IsTakenWhere kept b old new → new ≡ cond (x || b) whole None
 taken_more true true whole kept old new was same (inl is) = is ∙ same refl
 taken_more true true whole kept old new was same (inr both) = both.1 ∙ was
 taken_more true false whole kept old new was same (inl is) = is ∙ was
@@ -160,7 +160,7 @@ taken_more false false whole kept old new was same (inr both) = both.1 ∙ was
 pub one-more-taken : (list : List Lock) (i : ℕ) (lock : LockName) (mode : Mode) (kept : LockName → Option Kept) (old new : LockName → Option Kept)
     → i < length list → slice_get list i ≡ Some (lock, mode)
     → ((name : LockName) → old name ≡ cond (is_named (take i list) name) (kept name) None)
-    → ((name : LockName) → IsTaken (kept lock) (is_same_lock_name lock name) (old name) (new name))
+    → ((name : LockName) → IsTakenWhere (kept lock) (is_same_lock_name lock name) (old name) (new name))
     → (name : LockName) → new name ≡ cond (is_named (take (i + 1) list) name) (kept name) None
 one-more-taken list i lock mode kept old new within at was taken name =
     taken_more (is_named (take i list) name) (is_same_lock_name lock name) (kept name) (kept lock) (old name) (new name) (was name)

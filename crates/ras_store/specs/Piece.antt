@@ -45,5 +45,5 @@ is_same_lock_name (Tile name id at) (Tile other oid place) =
 is_same_lock_name _ _ = false
 
 -- what was kept under one name is held under it now, and the rest as before. Nothing is added where nothing was kept
-abbrev pub IsTaken : Option Kept → Bool → Option Kept → Option Kept → Type 0
-IsTaken kept same old new = (new ≡ (if same then kept else old)) ⊎ ((kept ≡ None) × (new ≡ old))
+abbrev pub IsTakenWhere : Option Kept → Bool → Option Kept → Option Kept → Type 0
+IsTakenWhere kept same old new = (new ≡ (if same then kept else old)) ⊎ ((kept ≡ None) × (new ≡ old))

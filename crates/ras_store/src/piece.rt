@@ -2,7 +2,7 @@
 ghost use Rattle.std.specs.Prelude.{◌≡◌, None, All, map, IfOk, OnOk};
 ghost use Rattle.ras_domain.specs.declared.lock.LockName.{LockName};
 ghost use Rattle.ras_store.specs.Kept.{HasRoomAt, HasRoomFor, changed_by_all, kept_in};
-ghost use Rattle.ras_store.specs.Piece.{IsTaken, collection_entry, domain_entry, is_same_lock_name, piece_kept, tile_entry};
+ghost use Rattle.ras_store.specs.Piece.{IsTakenWhere, collection_entry, domain_entry, is_same_lock_name, piece_kept, tile_entry};
 ghost use Rattle.spec_statements.specs.ReachLaw.{Names};
 
 use crate::array::copy_of;
@@ -60,7 +60,7 @@ fn take(
     lock: &LockName,
     piece: &mut Piece,
 ) -> Result<(), AllocError>
-    ensures { OnOk result ((other : LockName) → IsTaken (kept_in contents.now lock.now) (is_same_lock_name lock.now other)
+    ensures { OnOk result ((other : LockName) → IsTakenWhere (kept_in contents.now lock.now) (is_same_lock_name lock.now other)
         (piece_kept piece.old other) (piece_kept piece.new other)) }
 {
     match lock {
@@ -77,7 +77,7 @@ fn take_collection(
     name: &Name,
     piece: &mut Piece,
 ) -> Result<(), AllocError>
-    ensures { OnOk result ((other : LockName) → IsTaken (kept_in contents.now (LockName.Collection name.now))
+    ensures { OnOk result ((other : LockName) → IsTakenWhere (kept_in contents.now (LockName.Collection name.now))
         (is_same_lock_name (LockName.Collection name.now) other) (piece_kept piece.old other) (piece_kept piece.new other)) }
 {
     let info = match contents.info(name) {
@@ -97,7 +97,7 @@ fn take_domain(
     oid: u64,
     piece: &mut Piece,
 ) -> Result<(), AllocError>
-    ensures { OnOk result ((other : LockName) → IsTaken (kept_in contents.now (LockName.Domain name.now oid))
+    ensures { OnOk result ((other : LockName) → IsTakenWhere (kept_in contents.now (LockName.Domain name.now oid))
         (is_same_lock_name (LockName.Domain name.now oid) other) (piece_kept piece.old other) (piece_kept piece.new other)) }
 {
     match contents.domain(name, oid) {
@@ -120,7 +120,7 @@ fn take_tile(
     place: &Point,
     piece: &mut Piece,
 ) -> Result<(), AllocError>
-    ensures { OnOk result ((other : LockName) → IsTaken (kept_in contents.now (LockName.Tile name.now oid place.now))
+    ensures { OnOk result ((other : LockName) → IsTakenWhere (kept_in contents.now (LockName.Tile name.now oid place.now))
         (is_same_lock_name (LockName.Tile name.now oid place.now) other) (piece_kept piece.old other) (piece_kept piece.new other)) }
 {
     match contents.tile(name, oid, place) {

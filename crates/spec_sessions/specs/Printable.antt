@@ -22,14 +22,14 @@ use Rattle.spec_sessions.specs.Walk.{Line, LineReply, ReadScript, out_of_memory,
 
 -- ---- parts that have a text
 
-abbrev pub HasNumber : Cell → Type 0
-HasNumber Null = Unit {0}
-HasNumber (Value numbers) = numbers.items ≢ []
+abbrev pub HasAnyNumber : Cell → Type 0
+HasAnyNumber Null = Unit {0}
+HasAnyNumber (Value numbers) = numbers.items ≢ []
 
 abbrev pub RowHasText : RowReply → Type 0
-RowHasText (one_cell cell) = HasNumber cell
+RowHasText (one_cell cell) = HasAnyNumber cell
 RowHasText (one_domain box) = Unit {0}
-RowHasText (all_cells box cells) = All HasNumber cells
+RowHasText (all_cells box cells) = All HasAnyNumber cells
 
 abbrev pub ReplyHasText : Reply → Type 0
 ReplyHasText (values rows) = All RowHasText rows
@@ -149,6 +149,6 @@ abbrev pub is_given_up : Event → Truth
 is_given_up (GaveUp t k) = true
 is_given_up event = false
 
-pub record IsWhole (outcome : OutcomeValue) : Type 0 where
+pub record IsUnbroken (outcome : OutcomeValue) : Type 0 where
   pub lines : All (λ line. line.reply ≢ out_of_memory) (all_lines outcome)
   pub events : All (λ event. is_given_up event ≡ false) outcome.history

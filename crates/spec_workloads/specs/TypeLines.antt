@@ -95,8 +95,8 @@ abbrev pub told_interval : Option ℤ → Option ℤ → Interval
 told_interval lo hi = record { lo = or_bound (negsuc 2147483647) lo; hi = or_bound (pos 2147483647) hi }
 
 -- bounds := "[" bound ":" bound {{ "," bound ":" bound }} "]"
-abbrev pub bounds_read : Reader (List Interval)
-bounds_read = bracketed (bind bound_read (λ lo. expect (s ":") (mapped (λ hi. told_interval lo hi) bound_read)))
+abbrev pub intervals_read : Reader (List Interval)
+intervals_read = bracketed (bind bound_read (λ lo. expect (s ":") (mapped (λ hi. told_interval lo hi) bound_read)))
 
 -- extents := "[" "0" ":" number {{ "," "0" ":" number }} "]"; a tile takes the coordinates from 0 to the number
 abbrev pub extents_read : Reader (List ℕ)
@@ -136,7 +136,7 @@ declared_type_of name cells bounds extents nulls = record {
 
 -- typeline := "type" name "=" cells bounds |[ "tiles" extents ]| |[ "null" nulls ]|
 abbrev pub type_read : Reader SetType
-type_read = after_word (codes "type") (accept free_name (λ name. expect (s "=") (bind cells_read (λ cells. bind bounds_read (λ bounds.
+type_read = after_word (codes "type") (accept free_name (λ name. expect (s "=") (bind cells_read (λ cells. bind intervals_read (λ bounds.
     bind (optional_after_word (codes "tiles") extents_read) (λ extents.
     mapped (λ nulls. declared_type_of name cells bounds extents nulls) (optional_after_word (codes "null") nulls_read)))))))
 
