@@ -1,0 +1,5 @@
+pub mod Same
+pub mod Places
+pub mod Entries
+pub mod Keeping
+pub mod Conflicts
