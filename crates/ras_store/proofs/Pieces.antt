@@ -108,38 +108,38 @@ taken-nothing kept same old none = inr (none, refl)
 
 module _ (old new : Piece) where
   pub taken-collection : (n : List ℕ) (info : Option CollectionInfo) (kept : Option Kept)
-      → new.collections.items ≡ old.collections.items ++ (n, info) ∷ [] → new.domains.items ≡ old.domains.items → new.tiles.items ≡ old.tiles.items
+      → new.collections ≡ old.collections ++ (n, info) ∷ [] → new.domains ≡ old.domains → new.tiles ≡ old.tiles
       → option_map collection_kept info ≡ kept → (other : LockName)
       → IsTakenWhere kept (is_same_lock_name (Collection n) other) (piece_kept old other) (piece_kept new other)
   taken-collection n info kept more domains tiles is (Collection m) =
       inl
       (ap (λ es. changed_by_all (map collection_entry es) (Collection m) None) more
-      ∙ entries-push collection_entry old.collections.items (n, info) (Collection m) None
+      ∙ entries-push collection_entry old.collections (n, info) (Collection m) None
       ∙ ap (λ k. cond (is_at (slice_cmp nat_cmp n) m) k (piece_kept old (Collection m))) is)
   taken-collection n info kept more domains tiles is (Domain m oid) = inl (ap (λ es. changed_by_all (map domain_entry es) (Domain m oid) None) domains)
   taken-collection n info kept more domains tiles is (Tile m oid place) = inl (ap (λ es. changed_by_all (map tile_entry es) (Tile m oid place) None) tiles)
 
   pub taken-domain : (n : List ℕ) (id : ℕ) (domain : List Interval) (kept : Option Kept)
-      → new.domains.items ≡ old.domains.items ++ (n, id, domain) ∷ [] → new.collections.items ≡ old.collections.items → new.tiles.items ≡ old.tiles.items
+      → new.domains ≡ old.domains ++ (n, id, domain) ∷ [] → new.collections ≡ old.collections → new.tiles ≡ old.tiles
       → Some (domain_kept domain) ≡ kept → (other : LockName)
       → IsTakenWhere kept (is_same_lock_name (Domain n id) other) (piece_kept old other) (piece_kept new other)
   taken-domain n id domain kept more collections tiles is (Domain m oid) =
       inl
       (ap (λ es. changed_by_all (map domain_entry es) (Domain m oid) None) more
-      ∙ entries-push domain_entry old.domains.items (n, id, domain) (Domain m oid) None
+      ∙ entries-push domain_entry old.domains (n, id, domain) (Domain m oid) None
       ∙ joined (is_at (slice_cmp nat_cmp n) m) (is_at (nat_cmp id) oid) (Some (domain_kept domain)) (piece_kept old (Domain m oid))
       ∙ ap (λ k. cond (is_at (slice_cmp nat_cmp n) m && is_at (nat_cmp id) oid) k (piece_kept old (Domain m oid))) is)
   taken-domain n id domain kept more collections tiles is (Collection m) = inl (ap (λ es. changed_by_all (map collection_entry es) (Collection m) None) collections)
   taken-domain n id domain kept more collections tiles is (Tile m oid place) = inl (ap (λ es. changed_by_all (map tile_entry es) (Tile m oid place) None) tiles)
 
   pub taken-tile : (n : List ℕ) (id : ℕ) (at : ArrayVec ℤ) (tile : Arc TileValue Global) (kept : Option Kept)
-      → new.tiles.items ≡ old.tiles.items ++ (n, id, at, tile) ∷ [] → new.collections.items ≡ old.collections.items → new.domains.items ≡ old.domains.items
+      → new.tiles ≡ old.tiles ++ (n, id, at, tile) ∷ [] → new.collections ≡ old.collections → new.domains ≡ old.domains
       → kept_tile (Some tile) ≡ kept → (other : LockName)
       → IsTakenWhere kept (is_same_lock_name (Tile n id at) other) (piece_kept old other) (piece_kept new other)
   taken-tile n id at tile kept more collections domains is (Tile m oid place) =
       inl
       (ap (λ es. changed_by_all (map tile_entry es) (Tile m oid place) None) more
-      ∙ entries-push tile_entry old.tiles.items (n, id, at, tile) (Tile m oid place) None
+      ∙ entries-push tile_entry old.tiles (n, id, at, tile) (Tile m oid place) None
       ∙ joined (is_at (slice_cmp nat_cmp n) m) (is_at (nat_cmp id) oid && is_at (row_major at.items) place.items) (kept_tile (Some tile)) (piece_kept old (Tile m oid place))
       ∙ ap (λ k. cond (is_same_lock_name (Tile n id at) (Tile m oid place)) k (piece_kept old (Tile m oid place))) is)
   taken-tile n id at tile kept more collections domains is (Collection m) = inl (ap (λ es. changed_by_all (map collection_entry es) (Collection m) None) collections)
@@ -216,20 +216,20 @@ tiles-domain (e ∷ es) m oid k =
 
 -- all entries of a piece, one kind after another
 pub put-all : (piece : Piece) (name : LockName)
-    → changed_by_all (map tile_entry piece.tiles.items) name
-    (changed_by_all (map domain_entry piece.domains.items) name (changed_by_all (map collection_entry piece.collections.items) name None))
+    → changed_by_all (map tile_entry piece.tiles) name
+    (changed_by_all (map domain_entry piece.domains) name (changed_by_all (map collection_entry piece.collections) name None))
     ≡ piece_kept piece name
 put-all piece (Collection m) =
-    tiles-collection piece.tiles.items m (changed_by_all (map domain_entry piece.domains.items) (Collection m) (piece_kept piece (Collection m)))
-    ∙ domains-collection piece.domains.items m (piece_kept piece (Collection m))
+    tiles-collection piece.tiles m (changed_by_all (map domain_entry piece.domains) (Collection m) (piece_kept piece (Collection m)))
+    ∙ domains-collection piece.domains m (piece_kept piece (Collection m))
 put-all piece (Domain m oid) =
-    tiles-domain piece.tiles.items m oid
-    (changed_by_all (map domain_entry piece.domains.items) (Domain m oid) (changed_by_all (map collection_entry piece.collections.items) (Domain m oid) None))
-    ∙ ap (changed_by_all (map domain_entry piece.domains.items) (Domain m oid)) (collections-domain piece.collections.items m oid)
+    tiles-domain piece.tiles m oid
+    (changed_by_all (map domain_entry piece.domains) (Domain m oid) (changed_by_all (map collection_entry piece.collections) (Domain m oid) None))
+    ∙ ap (changed_by_all (map domain_entry piece.domains) (Domain m oid)) (collections-domain piece.collections m oid)
 put-all piece (Tile m oid place) =
-    ap (changed_by_all (map tile_entry piece.tiles.items) (Tile m oid place))
-    (domains-tile piece.domains.items m oid place (changed_by_all (map collection_entry piece.collections.items) (Tile m oid place) None)
-    ∙ collections-tile piece.collections.items m oid place)
+    ap (changed_by_all (map tile_entry piece.tiles) (Tile m oid place))
+    (domains-tile piece.domains m oid place (changed_by_all (map collection_entry piece.collections) (Tile m oid place) None)
+    ∙ collections-tile piece.collections m oid place)
 
 -- ---- entries that are taken from a list
 

@@ -30,9 +30,9 @@ tile_entry entry = TileChange entry.0 entry.1 entry.2 (Some entry.3)
 
 -- what a piece holds under a name: what the last of its entries there has, none where there is no such entry
 abbrev pub piece_kept : Piece → LockName → Option Kept
-piece_kept piece (Collection name) = changed_by_all (map collection_entry piece.collections.items) (Collection name) None
-piece_kept piece (Domain name oid) = changed_by_all (map domain_entry piece.domains.items) (Domain name oid) None
-piece_kept piece (Tile name oid place) = changed_by_all (map tile_entry piece.tiles.items) (Tile name oid place) None
+piece_kept piece (Collection name) = changed_by_all (map collection_entry piece.collections) (Collection name) None
+piece_kept piece (Domain name oid) = changed_by_all (map domain_entry piece.domains) (Domain name oid) None
+piece_kept piece (Tile name oid place) = changed_by_all (map tile_entry piece.tiles) (Tile name oid place) None
 
 -- ---- taking, for the contracts of this crate alone
 

@@ -1,5 +1,5 @@
 //! What is taken of a store under a list of locks, and put into a view.
-ghost use Rattle.std.specs.Prelude.{◌≡◌, None, All, map, IfOk, OnOk};
+ghost use Rattle.std.specs.Prelude.{◌≡◌, [], ◌∷◌, ◌++◌, None, All, map, IfOk, OnOk};
 ghost use Rattle.ras_domain.specs.declared.lock.LockName.{LockName};
 ghost use Rattle.ras_store.specs.Kept.{HasRoomAt, HasRoomFor, changed_by_all, kept_in};
 ghost use Rattle.ras_store.specs.Piece.{IsTakenWhere, collection_entry, domain_entry, is_same_lock_name, piece_kept, tile_entry};
@@ -9,7 +9,7 @@ use crate::array::copy_of;
 use crate::change::Change;
 use crate::collection::CollectionInfo;
 use crate::contents::Contents;
-use ras_domain::{LockList, LockName, Name, Point, Region};
+use ras_domain::{List, LockList, LockName, Name, Point, Region};
 use ras_tile::Tile;
 use std::alloc::{AllocError, Global};
 use std::sync::Arc;
@@ -18,9 +18,9 @@ use std::sync::Arc;
 /// where there is none, and for each domain and tile that is there.
 #[derive(Drop)]
 pub struct Piece {
-    pub collections: Vec<(Name, Option<CollectionInfo>)>,
-    pub domains: Vec<(Name, u64, Region)>,
-    pub tiles: Vec<(Name, u64, Point, Arc<Tile>)>,
+    pub collections: List<(Name, Option<CollectionInfo>)>,
+    pub domains: List<(Name, u64, Region)>,
+    pub tiles: List<(Name, u64, Point, Arc<Tile>)>,
 }
 
 impl Piece {
@@ -29,9 +29,9 @@ impl Piece {
         ensures { (name : LockName) → piece_kept result name ≡ None }
     {
         Piece {
-            collections: Vec::new(alloc),
-            domains: Vec::new(alloc),
-            tiles: Vec::new(alloc),
+            collections: List::new(alloc),
+            domains: List::new(alloc),
+            tiles: List::new(alloc),
         }
     }
 }
@@ -85,7 +85,7 @@ fn take_collection(
         None => None,
     };
     let name = name.try_clone(alloc)?;
-    piece.collections.push((name, info))?;
+    push(alloc, &mut piece.collections, (name, info))?;
     Ok(())
 }
 
@@ -104,7 +104,7 @@ fn take_domain(
         Some(domain) => {
             let domain = copy_of(domain);
             let name = name.try_clone(alloc)?;
-            piece.domains.push((name, oid, domain))?;
+            push(alloc, &mut piece.domains, (name, oid, domain))?;
             Ok(())
         }
         None => Ok(()),
@@ -128,10 +128,20 @@ fn take_tile(
             let tile = Arc::try_clone(tile)?;
             let name = name.try_clone(alloc)?;
             let place = copy_of_place(place)?;
-            piece.tiles.push((name, oid, place, tile))?;
+            push(alloc, &mut piece.tiles, (name, oid, place, tile))?;
             Ok(())
         }
         None => Ok(()),
+    }
+}
+
+/// Puts an item at the end of a list. The error is want of memory.
+fn push<T: Drop>(alloc: Global, list: &mut List<T>, item: T) -> Result<(), AllocError>
+    ensures { OnOk result (list.new ≡ list.old ++ item ∷ []) }
+{
+    match list.push(alloc, item) {
+        Ok(()) => Ok(()),
+        Err(_) => Err(AllocError),
     }
 }
 
@@ -149,9 +159,9 @@ pub(crate) fn reserve_piece(
     piece: &Piece,
 ) -> Result<(), AllocError>
     ensures kept { (name : LockName) → kept_in contents.new name ≡ kept_in contents.old name }
-    ensures collections { OnOk result (All (λ entry. HasRoomFor contents.new (collection_entry entry)) piece.now.collections.items) }
-    ensures domains { OnOk result (All (λ entry. HasRoomFor contents.new (domain_entry entry)) piece.now.domains.items) }
-    ensures tiles { OnOk result (All (λ entry. HasRoomFor contents.new (tile_entry entry)) piece.now.tiles.items) }
+    ensures collections { OnOk result (All (λ entry. HasRoomFor contents.new (collection_entry entry)) piece.now.collections) }
+    ensures domains { OnOk result (All (λ entry. HasRoomFor contents.new (domain_entry entry)) piece.now.domains) }
+    ensures tiles { OnOk result (All (λ entry. HasRoomFor contents.new (tile_entry entry)) piece.now.tiles) }
 {
     reserve_collections(alloc, contents, piece.collections.as_slice())?;
     reserve_domains(alloc, contents, piece.domains.as_slice())?;
@@ -206,9 +216,9 @@ fn reserve_tiles(
 /// Puts in what a piece holds where nothing is kept. It takes no memory.
 pub(crate) fn put_piece(contents: &mut Contents, piece: Piece)
     requires empty { (name : LockName) → kept_in contents.old name ≡ None }
-    requires collections { All (λ entry. HasRoomFor contents.old (collection_entry entry)) piece.collections.items }
-    requires domains { All (λ entry. HasRoomFor contents.old (domain_entry entry)) piece.domains.items }
-    requires tiles { All (λ entry. HasRoomFor contents.old (tile_entry entry)) piece.tiles.items }
+    requires collections { All (λ entry. HasRoomFor contents.old (collection_entry entry)) piece.collections }
+    requires domains { All (λ entry. HasRoomFor contents.old (domain_entry entry)) piece.domains }
+    requires tiles { All (λ entry. HasRoomFor contents.old (tile_entry entry)) piece.tiles }
     ensures { (name : LockName) → kept_in contents.new name ≡ piece_kept piece name }
 {
     let Piece {
@@ -216,9 +226,9 @@ pub(crate) fn put_piece(contents: &mut Contents, piece: Piece)
         domains,
         tiles,
     } = piece;
-    put_collections(contents, collections);
-    put_domains(contents, domains);
-    put_tiles(contents, tiles);
+    put_collections(contents, collections.into_vec());
+    put_domains(contents, domains.into_vec());
+    put_tiles(contents, tiles.into_vec());
 }
 
 fn put_collections(contents: &mut Contents, entries: Vec<(Name, Option<CollectionInfo>)>)

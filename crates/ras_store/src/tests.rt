@@ -222,9 +222,9 @@ fn a_piece_has_what_the_list_names(rt: HostRuntime) -> Result<(), Fail> {
     let other = Name::of(rt.alloc(), b"H")?;
     lock(rt.alloc(), &mut list, LockName::Domain(other, 1))?;
     let piece = store.piece(rt.alloc(), &list)?;
-    assert_eq!(rt; piece.collections.len(), 2);
-    assert_eq!(rt; piece.domains.len(), 1);
-    assert_eq!(rt; piece.tiles.len(), 4);
+    assert_eq!(rt; piece.collections.as_slice().len(), 2);
+    assert_eq!(rt; piece.domains.as_slice().len(), 1);
+    assert_eq!(rt; piece.tiles.as_slice().len(), 4);
     check_view(&rt, rt.alloc(), &view_of(rt.alloc(), piece)?)
 }
 

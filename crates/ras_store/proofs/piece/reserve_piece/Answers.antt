@@ -16,8 +16,8 @@ returns-clause-collections c =
     on_ok_weaker c.reserve_tiles.result
     (λ made. All-weaker (λ entry. HasRoomFor c.reserve_collections.new.contents (collection_entry entry)) (λ entry. HasRoomFor c.reserve_tiles.new.contents (collection_entry entry))
     (λ entry room. c.reserve_tiles.ensures.room (name_changed (collection_entry entry)) (c.reserve_domains.ensures.room (name_changed (collection_entry entry)) room))
-    c.args.piece.now.collections.items
-    (subst (All (λ entry. HasRoomFor c.reserve_collections.new.contents (collection_entry entry))) c.as_slice.ensures.value c.in_ok-reserve_collections.ensures.made))
+    c.args.piece.now.collections
+    (subst (All (λ entry. HasRoomFor c.reserve_collections.new.contents (collection_entry entry))) c.as_slice.ensures c.in_ok-reserve_collections.ensures.made))
     c.reserve_tiles.ensures.made
 
 pub returns-clause-domains : goal.returns-clause-domains
@@ -25,12 +25,12 @@ returns-clause-domains c =
     on_ok_weaker c.reserve_tiles.result
     (λ made. All-weaker (λ entry. HasRoomFor c.reserve_domains.new.contents (domain_entry entry)) (λ entry. HasRoomFor c.reserve_tiles.new.contents (domain_entry entry))
     (λ entry room. c.reserve_tiles.ensures.room (name_changed (domain_entry entry)) room)
-    c.args.piece.now.domains.items
-    (subst (All (λ entry. HasRoomFor c.reserve_domains.new.contents (domain_entry entry))) c.as_slice-2.ensures.value c.in_ok-reserve_domains.ensures.made))
+    c.args.piece.now.domains
+    (subst (All (λ entry. HasRoomFor c.reserve_domains.new.contents (domain_entry entry))) c.as_slice-2.ensures c.in_ok-reserve_domains.ensures.made))
     c.reserve_tiles.ensures.made
 
 pub returns-clause-tiles : goal.returns-clause-tiles
 returns-clause-tiles c =
     on_ok_weaker c.reserve_tiles.result
-    (λ made. subst (All (λ entry. HasRoomFor c.reserve_tiles.new.contents (tile_entry entry))) c.as_slice-3.ensures.value made)
+    (λ made. subst (All (λ entry. HasRoomFor c.reserve_tiles.new.contents (tile_entry entry))) c.as_slice-3.ensures made)
     c.reserve_tiles.ensures.made
