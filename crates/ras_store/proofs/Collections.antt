@@ -9,11 +9,14 @@ use Rattle.std.proofs.lemmas.Map.Lookups.{exact_bytes}
 use Rattle.std.proofs.lemmas.Map.Views.{tells_apart}
 use Rattle.ras_domain.specs.declared.lock.LockName.{LockName}
 use Rattle.ras_domain.specs.declared.lock.LockName.TheVariants.{Collection, Domain, Tile}
+use Rattle.ras_index.specs.Index.{IsReady}
 use Rattle.ras_store.specs.declared.change.Change.{Change}
 use Rattle.ras_store.specs.declared.change.Change.TheVariants.{Collection as CollectionChange, Domain as DomainChange, Tile as TileChange}
+use Rattle.ras_store.specs.declared.collection.CollectionInfo.{CollectionInfo}
 use Rattle.ras_store.specs.declared.collection.KeptCollection.{KeptCollection}
 use Rattle.ras_store.specs.declared.contents.Contents.{Contents}
 use Rattle.ras_store.specs.Kept.{HasRoomAt, HasRoomIn, IsEmptyCollection, changed_by, collection_kept, domain_in, domain_kept, kept_in, kept_under, name_changed, replaced, tile_stored, tile_kept}
+use Rattle.ras_store.specs.Piece.{is_same_lock_name}
 use Rattle.ras_store.proofs.Keys.{by_key}
 use Rattle.spec_statements.specs.Locks.{collection_in}
 
@@ -35,6 +38,22 @@ module _ (old new : Contents) (key : List ℕ) (v w : KeptCollection) (found : g
       (collection_in name) (here name) (λ o. refl)
       ∙ ap (λ k. cond (is_at (slice_cmp nat_cmp k) (collection_in name)) (replaced change name (kept_in old name)) (kept_in old name)) (sym named)
 
+  -- what it has beside its arrays was put in
+  pub kept-put : (info : Option CollectionInfo) → w.info ≡ info → w.arrays ≡ v.arrays → (other : LockName)
+      → kept_in new other ≡ cond (is_same_lock_name (Collection key) other) (option_map collection_kept info) (kept_in old other)
+  kept-put info is same (Collection m) =
+      by_key (slice_cmp nat_cmp) exact_bytes old.collections new.collections key v w found updates
+      (λ b o n. kept_under n (Collection m) ≡ cond b (option_map collection_kept info) (kept_under o (Collection m)))
+      m (ap (λ i. option_map collection_kept i) is) (λ o. refl)
+  kept-put info is same (Domain m oid) =
+      by_key (slice_cmp nat_cmp) exact_bytes old.collections new.collections key v w found updates
+      (λ b o n. kept_under n (Domain m oid) ≡ kept_under o (Domain m oid))
+      m (ap (λ arrays. option_map domain_kept (domain_in (get nat_cmp arrays oid))) same) (λ o. refl)
+  kept-put info is same (Tile m oid place) =
+      by_key (slice_cmp nat_cmp) exact_bytes old.collections new.collections key v w found updates
+      (λ b o n. kept_under n (Tile m oid place) ≡ kept_under o (Tile m oid place))
+      m (ap (λ arrays. option_map tile_kept (tile_stored (get nat_cmp arrays oid) place.items)) same) (λ o. refl)
+
   -- nothing changed
   pub kept-same : ((name : LockName) → kept_under (Some w) name ≡ kept_under (Some v) name) → (name : LockName) → kept_in new name ≡ kept_in old name
   kept-same here name =
@@ -52,6 +71,13 @@ module _ (old new : Contents) (key : List ℕ) (v w : KeptCollection) (found : g
   room-there other named room =
       subst (λ k. HasRoomIn (get (slice_cmp nat_cmp) new.collections k) other) (sym named)
       (subst (λ o. HasRoomIn o other) (sym updates.1) room)
+
+-- other information leaves the room of its arrays
+pub room-info : (v w : KeptCollection) → w.arrays ≡ v.arrays → (other : LockName) → HasRoomIn (Some v) other → HasRoomIn (Some w) other
+room-info v w same (Collection name) room = tt
+room-info v w same (Domain name oid) room = subst (λ arrays. IsSome (get nat_cmp arrays oid)) (sym same) room
+room-info v w same (Tile name oid place) room =
+    subst (λ arrays. IsSomeAnd (get nat_cmp arrays oid) (λ array. IsReady array.tiles place.items)) (sym same) room
 
 -- ---- room made for one
 

@@ -25,10 +25,11 @@ use Rattle.ras_index.specs.Index.{row_major}
 use Rattle.ras_index.proofs.Slots.{row_major_exact, row_major_total}
 use Rattle.ras_tile.specs.Tile.{TileValue}
 use Rattle.ras_store.specs.declared.change.Change.{Change}
+use Rattle.ras_store.specs.declared.change.Change.TheVariants.{Domain as DomainChange, Tile as TileChange}
 use Rattle.ras_store.specs.declared.collection.CollectionInfo.{CollectionInfo}
 use Rattle.ras_store.specs.declared.piece.Piece.{Piece}
-use Rattle.ras_store.specs.Kept.{Kept, changed_by, changed_by_all, collection_kept, domain_kept, is_listed, kept_tile}
-use Rattle.ras_store.specs.Piece.{IsTakenWhere, collection_entry, domain_entry, is_same_lock_name, piece_kept, tile_entry}
+use Rattle.ras_store.specs.Kept.{Kept, changed_by, changed_by_all, collection_kept, domain_kept, kept_tile, name_changed}
+use Rattle.ras_store.specs.Piece.{IsTakenWhere, collection_entry, domain_entry, is_same_lock_name, kept_by, piece_kept, piece_over, placed_by, placed_by_all, tile_entry}
 use Rattle.ras_store.proofs.Listed.{by_name_total, changed_by_all-push}
 use Rattle.spec_statements.specs.Locks.{Lock}
 use Rattle.spec_statements.specs.ReachLaw.{Names}
@@ -169,67 +170,113 @@ one-more-taken list i lock mode kept old new within at was taken name =
     (ap (λ (l : Lock). is_same_lock_name l.0 name) (sym (get_or_from_slice_get list i (lock, mode) (lock, mode) at)))
     ∙ ap (λ b. cond b (kept name) None) (sym (list_any_more (λ (l : Lock). is_same_lock_name l.0 name) list i (lock, mode) within))
 
--- ---- put where nothing is kept
-
-either_none : (a b : Bool) → cond a (cond b None None) None ≡ (let none : Option Kept = None in none)
-either_none true true = refl
-either_none true false = refl
-either_none false b = refl
+-- ---- entries put one after another, except under names that were written
 
 unchanged_at : (a : Bool) (k : Option Kept) → cond a k k ≡ k
 unchanged_at true k = refl
 unchanged_at false k = refl
 
-collections-domain : (es : List (List ℕ × Option CollectionInfo)) (m : List ℕ) (oid : ℕ) → changed_by_all (map collection_entry es) (Domain m oid) None ≡ None
-collections-domain [] m oid = refl
-collections-domain (e ∷ es) m oid =
-    ap (changed_by_all (map collection_entry es) (Domain m oid)) (either_none (is_at (slice_cmp nat_cmp e.0) m) (is_listed e.1 oid)) ∙ collections-domain es m oid
+-- one entry more
+pub placed-push : {E : Type 0} (f : E → Change) (xs : List E) (x : E) (name : LockName) (kept : Option Kept)
+    → placed_by_all (map f (xs ++ x ∷ [])) name kept ≡ placed_by (f x) name (placed_by_all (map f xs) name kept)
+placed-push f [] x name kept = refl
+placed-push f (y ∷ xs) x name kept = placed-push f xs x name (placed_by (f y) name kept)
 
-collections-tile : (es : List (List ℕ × Option CollectionInfo)) (m : List ℕ) (oid : ℕ) (place : ArrayVec ℤ)
-    → changed_by_all (map collection_entry es) (Tile m oid place) None ≡ None
-collections-tile [] m oid place = refl
-collections-tile (e ∷ es) m oid place =
-    ap (changed_by_all (map collection_entry es) (Tile m oid place)) (either_none (is_at (slice_cmp nat_cmp e.0) m) (is_listed e.1 oid)) ∙ collections-tile es m oid place
+put_case : (at here same : Bool) (value before more old new : Option Kept) → (same ≡ true → at ≡ here) → old ≡ cond here before more
+    → new ≡ cond at old (cond same value old) → new ≡ cond here before (cond same value more)
+put_case true true same value before more old new tied was is = is ∙ was
+put_case true false true value before more old new tied was is = absurd (let e : true ≡ (let b : Bool = false in b) = tied refl in cc)
+put_case true false false value before more old new tied was is = is ∙ was
+put_case false true true value before more old new tied was is = absurd (let e : false ≡ (let b : Bool = true in b) = tied refl in cc)
+put_case false true false value before more old new tied was is = is ∙ was
+put_case false false true value before more old new tied was is = is
+put_case false false false value before more old new tied was is = is ∙ was
 
-domains-collection : (es : List (List ℕ × ℕ × List Interval)) (m : List ℕ) (k : Option Kept) → changed_by_all (map domain_entry es) (Collection m) k ≡ k
-domains-collection [] m k = refl
-domains-collection (e ∷ es) m k =
-    ap (changed_by_all (map domain_entry es) (Collection m)) (unchanged_at (is_at (slice_cmp nat_cmp e.0) m) k) ∙ domains-collection es m k
+pub one-more-put : {E : Type 0} (f : E → Change) (written : LockName → Bool) (before old new : LockName → Option Kept) (xs : List E) (x : E)
+    → ((name : LockName) → old name ≡ cond (written name) (before name) (placed_by_all (map f xs) name (before name)))
+    → ((name : LockName) → new name ≡ cond (written (name_changed (f x))) (old name) (placed_by (f x) name (old name)))
+    → (name : LockName) → new name ≡ cond (written name) (before name) (placed_by_all (map f (xs ++ x ∷ [])) name (before name))
+one-more-put f written before old new xs x was is name =
+    put_case (written (name_changed (f x))) (written name) (is_same_lock_name (name_changed (f x)) name) (kept_by (f x)) (before name)
+    (placed_by_all (map f xs) name (before name)) (old name) (new name) (λ same. ap written (same-exact (name_changed (f x)) name same)) (was name) (is name)
+    ∙ ap (λ k. cond (written name) (before name) k) (sym (placed-push f xs x name (before name)))
 
-domains-tile : (es : List (List ℕ × ℕ × List Interval)) (m : List ℕ) (oid : ℕ) (place : ArrayVec ℤ) (k : Option Kept)
-    → changed_by_all (map domain_entry es) (Tile m oid place) k ≡ k
-domains-tile [] m oid place k = refl
-domains-tile (e ∷ es) m oid place k =
-    ap (changed_by_all (map domain_entry es) (Tile m oid place)) (unchanged_at (is_at (slice_cmp nat_cmp e.0) m) k) ∙ domains-tile es m oid place k
+-- nothing was put yet
+pub none-put : (b : Bool) (kept : Option Kept) → kept ≡ cond b kept kept
+none-put true kept = refl
+none-put false kept = refl
 
-tiles-collection : (es : List (List ℕ × ℕ × ArrayVec ℤ × Arc TileValue Global)) (m : List ℕ) (k : Option Kept)
-    → changed_by_all (map tile_entry es) (Collection m) k ≡ k
-tiles-collection [] m k = refl
-tiles-collection (e ∷ es) m k =
-    ap (changed_by_all (map tile_entry es) (Collection m)) (unchanged_at (is_at (slice_cmp nat_cmp e.0) m) k) ∙ tiles-collection es m k
+-- a change of a domain or a tile puts what it has
+pub placed-domain : (n : List ℕ) (id : ℕ) (domain : Option (List Interval)) (name : LockName) (kept : Option Kept)
+    → changed_by (DomainChange n id domain) name kept ≡ placed_by (DomainChange n id domain) name kept
+placed-domain n id domain (Collection m) kept = unchanged_at (is_at (slice_cmp nat_cmp n) m) kept
+placed-domain n id domain (Domain m oid) kept = joined (is_at (slice_cmp nat_cmp n) m) (is_at (nat_cmp id) oid) (option_map domain_kept domain) kept
+placed-domain n id domain (Tile m oid place) kept = unchanged_at (is_at (slice_cmp nat_cmp n) m) kept
 
-tiles-domain : (es : List (List ℕ × ℕ × ArrayVec ℤ × Arc TileValue Global)) (m : List ℕ) (oid : ℕ) (k : Option Kept)
-    → changed_by_all (map tile_entry es) (Domain m oid) k ≡ k
-tiles-domain [] m oid k = refl
-tiles-domain (e ∷ es) m oid k =
-    ap (changed_by_all (map tile_entry es) (Domain m oid)) (unchanged_at (is_at (slice_cmp nat_cmp e.0) m) k) ∙ tiles-domain es m oid k
+pub placed-tile : (n : List ℕ) (id : ℕ) (at : ArrayVec ℤ) (tile : Option (Arc TileValue Global)) (name : LockName) (kept : Option Kept)
+    → changed_by (TileChange n id at tile) name kept ≡ placed_by (TileChange n id at tile) name kept
+placed-tile n id at tile (Collection m) kept = unchanged_at (is_at (slice_cmp nat_cmp n) m) kept
+placed-tile n id at tile (Domain m oid) kept = unchanged_at (is_at (slice_cmp nat_cmp n) m) kept
+placed-tile n id at tile (Tile m oid place) kept =
+    joined (is_at (slice_cmp nat_cmp n) m) (is_at (nat_cmp id) oid && is_at (row_major at.items) place.items) (kept_tile tile) kept
 
--- all entries of a piece, one kind after another
-pub put-all : (piece : Piece) (name : LockName)
-    → changed_by_all (map tile_entry piece.tiles) name
-    (changed_by_all (map domain_entry piece.domains) name (changed_by_all (map collection_entry piece.collections) name None))
-    ≡ piece_kept piece name
-put-all piece (Collection m) =
-    tiles-collection piece.tiles m (changed_by_all (map domain_entry piece.domains) (Collection m) (piece_kept piece (Collection m)))
-    ∙ domains-collection piece.domains m (piece_kept piece (Collection m))
-put-all piece (Domain m oid) =
-    tiles-domain piece.tiles m oid
-    (changed_by_all (map domain_entry piece.domains) (Domain m oid) (changed_by_all (map collection_entry piece.collections) (Domain m oid) None))
-    ∙ ap (changed_by_all (map domain_entry piece.domains) (Domain m oid)) (collections-domain piece.collections m oid)
-put-all piece (Tile m oid place) =
-    ap (changed_by_all (map tile_entry piece.tiles) (Tile m oid place))
-    (domains-tile piece.domains m oid place (changed_by_all (map collection_entry piece.collections) (Tile m oid place) None)
-    ∙ collections-tile piece.collections m oid place)
+-- ---- all entries of a piece, one kind after another
+
+-- under a name of their kind they put what the last one there has
+collections-here : (es : List (List ℕ × Option CollectionInfo)) (m : List ℕ) (k : Option Kept)
+    → placed_by_all (map collection_entry es) (Collection m) k ≡ changed_by_all (map collection_entry es) (Collection m) k
+collections-here [] m k = refl
+collections-here (e ∷ es) m k = collections-here es m (placed_by (collection_entry e) (Collection m) k)
+
+domains-here : (es : List (List ℕ × ℕ × List Interval)) (m : List ℕ) (oid : ℕ) (k : Option Kept)
+    → placed_by_all (map domain_entry es) (Domain m oid) k ≡ changed_by_all (map domain_entry es) (Domain m oid) k
+domains-here [] m oid k = refl
+domains-here (e ∷ es) m oid k =
+    domains-here es m oid (placed_by (domain_entry e) (Domain m oid) k)
+    ∙ ap (changed_by_all (map domain_entry es) (Domain m oid)) (sym (placed-domain e.0 e.1 (Some e.2) (Domain m oid) k))
+
+tiles-here : (es : List (List ℕ × ℕ × ArrayVec ℤ × Arc TileValue Global)) (m : List ℕ) (oid : ℕ) (place : ArrayVec ℤ) (k : Option Kept)
+    → placed_by_all (map tile_entry es) (Tile m oid place) k ≡ changed_by_all (map tile_entry es) (Tile m oid place) k
+tiles-here [] m oid place k = refl
+tiles-here (e ∷ es) m oid place k =
+    tiles-here es m oid place (placed_by (tile_entry e) (Tile m oid place) k)
+    ∙ ap (changed_by_all (map tile_entry es) (Tile m oid place)) (sym (placed-tile e.0 e.1 e.2 (Some e.3) (Tile m oid place) k))
+
+-- under a name of another kind they put nothing
+elsewhere : {E : Type 0} (f : E → Change) (es : List E) (name : LockName) (k : Option Kept)
+    → ((e : E) → is_same_lock_name (name_changed (f e)) name ≡ false) → placed_by_all (map f es) name k ≡ k
+elsewhere f [] name k other = refl
+elsewhere f (e ∷ es) name k other =
+    elsewhere f es name (placed_by (f e) name k) other ∙ ap (λ b. cond b (kept_by (f e)) k) (other e)
+
+put-over : (piece : Piece) (name : LockName) (k : Option Kept)
+    → placed_by_all (map tile_entry piece.tiles) name
+    (placed_by_all (map domain_entry piece.domains) name (placed_by_all (map collection_entry piece.collections) name k))
+    ≡ piece_over piece name k
+put-over piece (Collection m) k =
+    elsewhere tile_entry piece.tiles (Collection m) _ (λ e. refl) ∙ elsewhere domain_entry piece.domains (Collection m) _ (λ e. refl)
+    ∙ collections-here piece.collections m k
+put-over piece (Domain m oid) k =
+    elsewhere tile_entry piece.tiles (Domain m oid) _ (λ e. refl) ∙ domains-here piece.domains m oid _
+    ∙ ap (changed_by_all (map domain_entry piece.domains) (Domain m oid)) (elsewhere collection_entry piece.collections (Domain m oid) k (λ e. refl))
+put-over piece (Tile m oid place) k =
+    tiles-here piece.tiles m oid place _
+    ∙ ap (changed_by_all (map tile_entry piece.tiles) (Tile m oid place))
+    (elsewhere domain_entry piece.domains (Tile m oid place) _ (λ e. refl) ∙ elsewhere collection_entry piece.collections (Tile m oid place) k (λ e. refl))
+
+three_put : (b : Bool) (f g h : Option Kept → Option Kept) (k one two three whole : Option Kept)
+    → one ≡ cond b k (f k) → two ≡ cond b one (g one) → three ≡ cond b two (h two) → h (g (f k)) ≡ whole → three ≡ cond b k whole
+three_put true f g h k one two three whole first second third is = third ∙ second ∙ first
+three_put false f g h k one two three whole first second third is = third ∙ ap h (second ∙ ap g first) ∙ is
+
+pub piece-put : (piece : Piece) (written : LockName → Bool) (name : LockName) (k one two three : Option Kept)
+    → one ≡ cond (written name) k (placed_by_all (map collection_entry piece.collections) name k)
+    → two ≡ cond (written name) one (placed_by_all (map domain_entry piece.domains) name one)
+    → three ≡ cond (written name) two (placed_by_all (map tile_entry piece.tiles) name two)
+    → three ≡ cond (written name) k (piece_over piece name k)
+piece-put piece written name k one two three first second third =
+    three_put (written name) (placed_by_all (map collection_entry piece.collections) name) (placed_by_all (map domain_entry piece.domains) name)
+    (placed_by_all (map tile_entry piece.tiles) name) k one two three (piece_over piece name k) first second third (put-over piece name k)
 
 -- ---- entries that are taken from a list
 

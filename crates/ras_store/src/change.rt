@@ -73,6 +73,20 @@ impl Changes {
         }
     }
 
+    /// Puts more changes at the end, in their order. Where memory is wanting, the list stays as it was and
+    /// they are handed back.
+    pub fn append(&mut self, _alloc: Global, more: Changes) -> Result<(), Changes>
+        ensures ok { OnOk result (self.new ≡ self.old ++ more) }
+        ensures err { OnErr result (self.new ≡ self.old) }
+        ensures more_returned { IfErr result (λ back. back ≡ more) }
+    {
+        let mut more = more;
+        match self.changes.append(&mut more.changes) {
+            Ok(()) => Ok(()),
+            Err(_) => Err(more),
+        }
+    }
+
     /// The changes, in order.
     pub fn items(&self) -> &[Change]
         ensures { result.now ≡ self.now }

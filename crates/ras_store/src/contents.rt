@@ -1,11 +1,12 @@
 //! What is kept under the names of locks.
-ghost use Rattle.std.specs.Prelude.{◌≡◌, ℕ, List, Some, None, IsSome, IfSome, MatchOption, IfOk, OnOk, All, Contains, ◌↔◌, option_map};
+ghost use Rattle.std.specs.Prelude.{◌≡◌, ℕ, List, Some, None, IsSome, IfSome, MatchOption, IfOk, OnOk, All, Contains, ◌↔◌, option_map, if◌then◌else◌};
 ghost use Rattle.std.specs.List.Sorted.{IsStrictlySortedBy};
 ghost use Rattle.std.specs.Ordering.{nat_cmp};
 ghost use Rattle.std.specs.Cmp.Lexicographic.{slice_cmp};
 ghost use Rattle.std.specs.BTreeMap.{get};
 ghost use Rattle.std.specs.Option.{option_copied};
 ghost use Rattle.ras_domain.specs.declared.lock.LockName.{LockName};
+ghost use Rattle.ras_store.specs.Piece.{is_same_lock_name};
 ghost use Rattle.ras_store.specs.Kept.{HasRoomAt, HasRoomFor, IsEmptyCollection, changed_by, changed_by_all, collection_kept, domain_kept, kept_in, kept_tile};
 
 use crate::change::Change;
@@ -144,6 +145,17 @@ impl Contents {
     {
         let collection = self.collections.get_mut(change.collection()).unwrap();
         collection.apply(change);
+    }
+
+    /// Puts in what a collection has beside its arrays, which stay as they are. It takes no memory.
+    pub(crate) fn put_info(&mut self, name: &Name, info: Option<CollectionInfo>)
+        requires { HasRoomAt self.old (LockName.Collection name.now) }
+        ensures put { (other : LockName) → kept_in self.new other ≡ (if is_same_lock_name (LockName.Collection name.now) other
+            then option_map collection_kept info else kept_in self.old other) }
+        ensures room { (other : LockName) → HasRoomAt self.old other → HasRoomAt self.new other }
+    {
+        let collection = self.collections.get_mut(name).unwrap();
+        collection.info = info;
     }
 
     /// Makes room for several changes.

@@ -16,6 +16,7 @@ mod tests;
 mod view;
 mod workload;
 mod write;
+mod written;
 
 pub use change::{Change, Changes};
 pub use collection::CollectionInfo;
@@ -26,3 +27,4 @@ pub use store::Store;
 pub use view::View;
 pub use workload::Workload;
 pub use write::{Computed, Write};
+pub use written::{NothingWritten, WrittenNames};

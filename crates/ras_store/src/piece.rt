@@ -1,14 +1,15 @@
 //! What is taken of a store under a list of locks, and put into a view.
-ghost use Rattle.std.specs.Prelude.{◌≡◌, [], ◌∷◌, ◌++◌, None, All, map, IfOk, OnOk};
+ghost use Rattle.std.specs.Prelude.{◌≡◌, [], ◌∷◌, ◌++◌, None, All, map, IfOk, OnOk, if◌then◌else◌};
 ghost use Rattle.ras_domain.specs.declared.lock.LockName.{LockName};
-ghost use Rattle.ras_store.specs.Kept.{HasRoomAt, HasRoomFor, changed_by_all, kept_in};
-ghost use Rattle.ras_store.specs.Piece.{IsTakenWhere, collection_entry, domain_entry, is_same_lock_name, piece_kept, tile_entry};
+ghost use Rattle.ras_store.specs.Kept.{HasRoomAt, HasRoomFor, kept_in, name_changed};
+ghost use Rattle.ras_store.specs.Piece.{IsTakenWhere, collection_entry, domain_entry, is_same_lock_name, piece_kept, piece_over, placed_by, placed_by_all, tile_entry};
 ghost use Rattle.spec_statements.specs.ReachLaw.{Names};
 
 use crate::array::copy_of;
 use crate::change::Change;
 use crate::collection::CollectionInfo;
 use crate::contents::Contents;
+use crate::written::WrittenNames;
 use ras_domain::{List, LockList, LockName, Name, Point, Region};
 use ras_tile::Tile;
 use std::alloc::{AllocError, Global};
@@ -162,6 +163,7 @@ pub(crate) fn reserve_piece(
     ensures collections { OnOk result (All (λ entry. HasRoomFor contents.new (collection_entry entry)) piece.now.collections) }
     ensures domains { OnOk result (All (λ entry. HasRoomFor contents.new (domain_entry entry)) piece.now.domains) }
     ensures tiles { OnOk result (All (λ entry. HasRoomFor contents.new (tile_entry entry)) piece.now.tiles) }
+    ensures room { (other : LockName) → HasRoomAt contents.old other → HasRoomAt contents.new other }
 {
     reserve_collections(alloc, contents, piece.collections.as_slice())?;
     reserve_domains(alloc, contents, piece.domains.as_slice())?;
@@ -213,56 +215,130 @@ fn reserve_tiles(
     Ok(())
 }
 
-/// Puts in what a piece holds where nothing is kept. It takes no memory.
-pub(crate) fn put_piece(contents: &mut Contents, piece: Piece)
-    requires empty { (name : LockName) → kept_in contents.old name ≡ None }
+/// Puts in what a piece has, except under names that were written. It takes no memory.
+pub(crate) fn put_piece<W: WrittenNames>(contents: &mut Contents, piece: Piece, written: &W)
     requires collections { All (λ entry. HasRoomFor contents.old (collection_entry entry)) piece.collections }
     requires domains { All (λ entry. HasRoomFor contents.old (domain_entry entry)) piece.domains }
     requires tiles { All (λ entry. HasRoomFor contents.old (tile_entry entry)) piece.tiles }
-    ensures { (name : LockName) → kept_in contents.new name ≡ piece_kept piece name }
+    ensures put { (name : LockName) → kept_in contents.new name
+        ≡ (if W.is_written written.now name then kept_in contents.old name else piece_over piece name (kept_in contents.old name)) }
+    ensures room { (other : LockName) → HasRoomAt contents.old other → HasRoomAt contents.new other }
 {
     let Piece {
         collections,
         domains,
         tiles,
     } = piece;
-    put_collections(contents, collections.into_vec());
-    put_domains(contents, domains.into_vec());
-    put_tiles(contents, tiles.into_vec());
+    put_collections(contents, collections.into_vec(), written);
+    put_domains(contents, domains.into_vec(), written);
+    put_tiles(contents, tiles.into_vec(), written);
 }
 
-fn put_collections(contents: &mut Contents, entries: Vec<(Name, Option<CollectionInfo>)>)
+fn put_collections<W: WrittenNames>(
+    contents: &mut Contents,
+    entries: Vec<(Name, Option<CollectionInfo>)>,
+    written: &W,
+)
     requires { All (λ entry. HasRoomFor contents.old (collection_entry entry)) entries.items }
-    ensures changed { (name : LockName) → kept_in contents.new name
-        ≡ changed_by_all (map collection_entry entries.items) name (kept_in contents.old name) }
+    ensures put { (name : LockName) → kept_in contents.new name ≡ (if W.is_written written.now name then kept_in contents.old name
+        else placed_by_all (map collection_entry entries.items) name (kept_in contents.old name)) }
     ensures room { (other : LockName) → HasRoomAt contents.old other → HasRoomAt contents.new other }
 {
     for entry in entries {
-        let (name, info) = entry;
-        contents.apply(Change::Collection(name, info));
+        put_collection(contents, entry, written);
     }
 }
 
-fn put_domains(contents: &mut Contents, entries: Vec<(Name, u64, Region)>)
+fn put_domains<W: WrittenNames>(
+    contents: &mut Contents,
+    entries: Vec<(Name, u64, Region)>,
+    written: &W,
+)
     requires { All (λ entry. HasRoomFor contents.old (domain_entry entry)) entries.items }
-    ensures changed { (name : LockName) → kept_in contents.new name
-        ≡ changed_by_all (map domain_entry entries.items) name (kept_in contents.old name) }
+    ensures put { (name : LockName) → kept_in contents.new name ≡ (if W.is_written written.now name then kept_in contents.old name
+        else placed_by_all (map domain_entry entries.items) name (kept_in contents.old name)) }
     ensures room { (other : LockName) → HasRoomAt contents.old other → HasRoomAt contents.new other }
 {
     for entry in entries {
-        let (name, oid, domain) = entry;
-        contents.apply(Change::Domain(name, oid, Some(domain)));
+        put_domain(contents, entry, written);
     }
 }
 
-fn put_tiles(contents: &mut Contents, entries: Vec<(Name, u64, Point, Arc<Tile>)>)
+fn put_tiles<W: WrittenNames>(
+    contents: &mut Contents,
+    entries: Vec<(Name, u64, Point, Arc<Tile>)>,
+    written: &W,
+)
     requires { All (λ entry. HasRoomFor contents.old (tile_entry entry)) entries.items }
-    ensures changed { (name : LockName) → kept_in contents.new name
-        ≡ changed_by_all (map tile_entry entries.items) name (kept_in contents.old name) }
+    ensures put { (name : LockName) → kept_in contents.new name ≡ (if W.is_written written.now name then kept_in contents.old name
+        else placed_by_all (map tile_entry entries.items) name (kept_in contents.old name)) }
     ensures room { (other : LockName) → HasRoomAt contents.old other → HasRoomAt contents.new other }
 {
     for entry in entries {
-        let (name, oid, place, tile) = entry;
-        contents.apply(Change::Tile(name, oid, place, Some(tile)));
+        put_tile(contents, entry, written);
+    }
+}
+
+fn put_collection<W: WrittenNames>(
+    contents: &mut Contents,
+    entry: (Name, Option<CollectionInfo>),
+    written: &W,
+)
+    requires { HasRoomFor contents.old (collection_entry entry) }
+    ensures put { (name : LockName) → kept_in contents.new name ≡ (if W.is_written written.now (name_changed (collection_entry entry))
+        then kept_in contents.old name else placed_by (collection_entry entry) name (kept_in contents.old name)) }
+    ensures room { (other : LockName) → HasRoomAt contents.old other → HasRoomAt contents.new other }
+{
+    let (name, info) = entry;
+    let lock = LockName::Collection(name);
+    if written.contains(&lock) {
+        return;
+    }
+    match lock {
+        LockName::Collection(name) => contents.put_info(&name, info),
+        LockName::Domain(_name, _oid) => {}
+        LockName::Tile(_name, _oid, _place) => {}
+    }
+}
+
+fn put_domain<W: WrittenNames>(contents: &mut Contents, entry: (Name, u64, Region), written: &W)
+    requires { HasRoomFor contents.old (domain_entry entry) }
+    ensures put { (name : LockName) → kept_in contents.new name ≡ (if W.is_written written.now (name_changed (domain_entry entry))
+        then kept_in contents.old name else placed_by (domain_entry entry) name (kept_in contents.old name)) }
+    ensures room { (other : LockName) → HasRoomAt contents.old other → HasRoomAt contents.new other }
+{
+    let (name, oid, domain) = entry;
+    let lock = LockName::Domain(name, oid);
+    if written.contains(&lock) {
+        return;
+    }
+    match lock {
+        LockName::Domain(name, oid) => contents.apply(Change::Domain(name, oid, Some(domain))),
+        LockName::Collection(_name) => {}
+        LockName::Tile(_name, _oid, _place) => {}
+    }
+}
+
+fn put_tile<W: WrittenNames>(
+    contents: &mut Contents,
+    entry: (Name, u64, Point, Arc<Tile>),
+    written: &W,
+)
+    requires { HasRoomFor contents.old (tile_entry entry) }
+    ensures put { (name : LockName) → kept_in contents.new name ≡ (if W.is_written written.now (name_changed (tile_entry entry))
+        then kept_in contents.old name else placed_by (tile_entry entry) name (kept_in contents.old name)) }
+    ensures room { (other : LockName) → HasRoomAt contents.old other → HasRoomAt contents.new other }
+{
+    let (name, oid, place, tile) = entry;
+    let lock = LockName::Tile(name, oid, place);
+    if written.contains(&lock) {
+        return;
+    }
+    match lock {
+        LockName::Tile(name, oid, place) => {
+            contents.apply(Change::Tile(name, oid, place, Some(tile)))
+        }
+        LockName::Collection(_name) => {}
+        LockName::Domain(_name, _oid) => {}
     }
 }

@@ -1,33 +1,33 @@
-use Rattle.std.proofs.Common.{◌≡◌, All, map, refl, sym, ap, subst, ◌∙◌, rules}
+use Rattle.std.proofs.Common.{◌≡◌, All, sym, subst, rules}
 use Rattle.std.specs.Vec.Iter.{into_iter_items}
 use Rattle.std.proofs.lemmas.List.Elements.{All-weaker}
-use Rattle.ras_store.specs.Kept.{HasRoomFor, changed_by, kept_in, name_changed}
+use Rattle.ras_store.specs.Kept.{HasRoomFor, kept_in, name_changed}
 use Rattle.ras_store.specs.Piece.{collection_entry}
-use Rattle.ras_store.proofs.Pieces.{entries-push, first_of_all, rest_of_all}
+use Rattle.ras_store.proofs.Pieces.{first_of_all, none-put, one-more-put, rest_of_all}
 use Rattle.ras_store.proofs.piece.put_collections.Goals as goal
 
-pub apply-requires : goal.apply-requires
-apply-requires c =
+pub put_collection-requires : goal.put_collection-requires
+put_collection-requires g c =
     first_of_all (λ entry. HasRoomFor c.loop-entry.contents (collection_entry entry)) (into_iter_items c.loop-entry.entry-iterator) c.in-Some.entry
     (into_iter_items c.next.new.self) c.in-Some.ensures.steps.0 c.loop-entry.invariant.rest
 
 pub loop-entry-preserved : goal.loop-entry-preserved
-loop-entry-preserved c =
+loop-entry-preserved g c =
     record {
-      changed = λ name. c.apply.ensures.changed name ∙ ap (changed_by (collection_entry c.in-Some.entry) name) (c.loop-entry.invariant.changed name)
-          ∙ sym (entries-push collection_entry c.loop-entry.yielded c.in-Some.entry name (kept_in c.args.contents.now name));
-      room = λ other room. c.apply.ensures.room other (c.loop-entry.invariant.room other room);
-      rest = All-weaker (λ entry. HasRoomFor c.loop-entry.contents (collection_entry entry)) (λ entry. HasRoomFor c.apply.new.self (collection_entry entry))
-          (λ entry. c.apply.ensures.room (name_changed (collection_entry entry))) (into_iter_items c.next.new.self)
+      put = one-more-put collection_entry (g.W.WrittenNames.is_written c.args.written.now) (kept_in c.args.contents.now) (kept_in c.loop-entry.contents)
+          (kept_in c.put_collection.new.contents) c.loop-entry.yielded c.in-Some.entry c.loop-entry.invariant.put c.put_collection.ensures.put;
+      room = λ other room. c.put_collection.ensures.room other (c.loop-entry.invariant.room other room);
+      rest = All-weaker (λ entry. HasRoomFor c.loop-entry.contents (collection_entry entry)) (λ entry. HasRoomFor c.put_collection.new.contents (collection_entry entry))
+          (λ entry. c.put_collection.ensures.room (name_changed (collection_entry entry))) (into_iter_items c.next.new.self)
           (rest_of_all (λ entry. HasRoomFor c.loop-entry.contents (collection_entry entry)) (into_iter_items c.loop-entry.entry-iterator) c.in-Some.entry
           (into_iter_items c.next.new.self) c.in-Some.ensures.steps.0 c.loop-entry.invariant.rest);
     }
 
 pub loop-entry-init : goal.loop-entry-init
-loop-entry-init c =
+loop-entry-init g c =
     let items : into_iter_items c.into_iter-entry-iterator.result ≡ c.args.entries.items = search rules in
     record {
-      changed = λ name. refl;
+      put = λ name. none-put (g.W.WrittenNames.is_written c.args.written.now name) (kept_in c.args.contents.now name);
       room = λ other room. room;
       rest = subst (All (λ entry. HasRoomFor c.args.contents.now (collection_entry entry))) (sym items) c.requires;
     }

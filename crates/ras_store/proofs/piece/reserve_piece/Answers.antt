@@ -34,3 +34,7 @@ returns-clause-tiles c =
     on_ok_weaker c.reserve_tiles.result
     (λ made. subst (All (λ entry. HasRoomFor c.reserve_tiles.new.contents (tile_entry entry))) c.as_slice-3.ensures made)
     c.reserve_tiles.ensures.made
+
+pub returns-clause-room : goal.returns-clause-room
+returns-clause-room c = λ other room.
+    c.reserve_tiles.ensures.room other (c.reserve_domains.ensures.room other (c.reserve_collections.ensures.room other room))

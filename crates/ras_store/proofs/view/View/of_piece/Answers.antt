@@ -1,5 +1,6 @@
-use Rattle.std.proofs.Common.{◌∙◌}
+use Rattle.std.proofs.Common.{ap, ◌∙◌}
+use Rattle.ras_store.specs.Piece.{piece_over}
 use Rattle.ras_store.proofs.view.View.of_piece.Goals as goal
 
-pub put_piece-requires-clause-empty : goal.put_piece-requires-clause-empty
-put_piece-requires-clause-empty c = λ name. c.reserve_piece.ensures.kept name ∙ c.new-contents.ensures name
+pub returns-in-Ok-clause-held : goal.returns-in-Ok-clause-held
+returns-in-Ok-clause-held c = λ name. c.in-Ok.ensures.held name ∙ ap (piece_over c.args.piece name) (c.new-view.ensures name)
