@@ -11,8 +11,6 @@ pub mod laws;
 mod piece;
 mod rows;
 mod store;
-#[cfg(test)]
-mod tests;
 mod view;
 mod workload;
 mod write;

@@ -5,4 +5,6 @@
 #[cfg(test)]
 mod statements;
 #[cfg(test)]
+mod stores;
+#[cfg(test)]
 mod tokens;

@@ -1,9 +1,12 @@
 //! Tables worked out by hand, and that calls which need memory succeed.
-ghost use Rattle.std.specs.Prelude.{IfOk, IsTrue};
+ghost use Rattle.std.specs.Prelude.{IfOk, IsTrue, true};
 
-use crate::{Change, Changes, CollectionInfo, Identifiers, Piece, RowSet, Store, View};
 use ras_cells::Numbers;
 use ras_domain::{Interval, LockList, LockName, MAX_TILE_CELLS, Mode, Name, Point, Region};
+use ras_store::{
+    Change, Changes, CollectionInfo, Identifiers, NothingWritten, Piece, RowSet, Store, View,
+    WrittenNames,
+};
 use ras_tile::Tile;
 use std::alloc::{AllocError, Global};
 use std::process::Abort;
@@ -201,31 +204,164 @@ fn changes_are_applied_in_order(rt: HostRuntime) -> Result<(), Fail> {
     check_g(&rt, rt.alloc(), &whole)
 }
 
+/// The piece of G whole, and of a collection H that isn't there.
+fn piece_of_g(alloc: Global, store: &Store) -> Result<Piece, AllocError> {
+    let mut list = LockList::new(alloc);
+    let name = name_of(alloc)?;
+    lock(alloc, &mut list, LockName::Collection(name))?;
+    let name = name_of(alloc)?;
+    lock(alloc, &mut list, LockName::Domain(name, 1))?;
+    for (place, _, _) in TILES {
+        let name = name_of(alloc)?;
+        let tile = LockName::Tile(name, 1, point_of(place));
+        lock(alloc, &mut list, tile)?;
+    }
+    let other = Name::of(alloc, b"H")?;
+    lock(alloc, &mut list, LockName::Collection(other))?;
+    let other = Name::of(alloc, b"H")?;
+    lock(alloc, &mut list, LockName::Domain(other, 1))?;
+    store.piece(alloc, &list)
+}
+
 #[test]
 fn a_piece_has_what_the_list_names(rt: HostRuntime) -> Result<(), Fail> {
     let store = store_of_g(&rt, rt.alloc())?;
-    let mut list = LockList::new(rt.alloc());
-    let name = name_of(rt.alloc())?;
-    lock(rt.alloc(), &mut list, LockName::Collection(name))?;
-    let name = name_of(rt.alloc())?;
-    lock(rt.alloc(), &mut list, LockName::Domain(name, 1))?;
-    for (place, _, _) in TILES {
-        let name = name_of(rt.alloc())?;
-        lock(
-            rt.alloc(),
-            &mut list,
-            LockName::Tile(name, 1, point_of(place)),
-        )?;
-    }
-    let other = Name::of(rt.alloc(), b"H")?;
-    lock(rt.alloc(), &mut list, LockName::Collection(other))?;
-    let other = Name::of(rt.alloc(), b"H")?;
-    lock(rt.alloc(), &mut list, LockName::Domain(other, 1))?;
-    let piece = store.piece(rt.alloc(), &list)?;
+    let piece = piece_of_g(rt.alloc(), &store)?;
     assert_eq!(rt; piece.collections.as_slice().len(), 2);
     assert_eq!(rt; piece.domains.as_slice().len(), 1);
     assert_eq!(rt; piece.tiles.as_slice().len(), 4);
     check_view(&rt, rt.alloc(), &view_of(rt.alloc(), piece)?)
+}
+
+/// All names.
+struct Everything;
+
+impl WrittenNames for Everything {
+    ghost is_written = { λ everything name. true };
+
+    fn contains(&self, _name: &LockName) -> bool {
+        true
+    }
+}
+
+/// A change of G's first tile to these cells.
+fn first_tile(rt: &impl Abort, alloc: Global, cells: [i64; 4]) -> Result<Change, Fail> {
+    let (place, bounds, _) = TILES[0];
+    let tile = Arc::new(alloc, tile_of(rt, alloc, bounds, cells)?)?;
+    let name = name_of(alloc)?;
+    Ok(Change::Tile(name, 1, point_of(place), Some(tile)))
+}
+
+/// A view in which the first tile of G was written twice, and nothing else is seen.
+fn written_view(rt: &impl Abort, alloc: Global) -> Result<View, Fail> {
+    let mut changes = Changes::new(alloc);
+    add(alloc, &mut changes, first_tile(rt, alloc, [1, 1, 1, 1])?)?;
+    let mut more = Changes::new(alloc);
+    add(alloc, &mut more, first_tile(rt, alloc, [90, 91, 94, 95])?)?;
+    assert!(rt; changes.append(alloc, more).is_ok());
+    assert_eq!(rt; changes.items().len(), 2);
+    let mut view = View::new(alloc);
+    view.reserve_for(alloc, &changes)?;
+    view.apply_prepared(changes);
+    Ok(view)
+}
+
+#[test]
+fn a_view_keeps_what_was_written(rt: HostRuntime) -> Result<(), Fail> {
+    let store = store_of_g(&rt, rt.alloc())?;
+    let name = name_of(rt.alloc())?;
+    let mut view = written_view(&rt, rt.alloc())?;
+    assert!(rt; view.members(&name).is_none());
+    let piece = piece_of_g(rt.alloc(), &store)?;
+    assert!(rt; view.put_piece(rt.alloc(), piece, &Everything).is_ok());
+    assert!(rt; view.members(&name).is_none());
+    assert!(rt; view.domain_of(&name, 1).is_none());
+    let tile = view.tile_of(&name, 1, &point_of([0, 0])).ok_or("no tile")?;
+    let numbers = numbers_in(&rt, rt.alloc(), tile)?;
+    assert_eq!(rt; numbers.as_slice(), [90, 91, 94, 95].as_slice());
+    assert!(rt; view.tile_of(&name, 1, &point_of([0, 1])).is_none());
+    let piece = piece_of_g(rt.alloc(), &store)?;
+    assert!(rt; view.put_piece(rt.alloc(), piece, &NothingWritten).is_ok());
+    check_view(&rt, rt.alloc(), &view)
+}
+
+/// The coordinates of a place in rows of ten.
+fn coordinates_of(place: u32) -> [i64; 2] {
+    [i64::from(place / 10), i64::from(place % 10)]
+}
+
+/// A change of a tile of one cell, which has the numbers of a round, of its array and of its place.
+fn cell_change(
+    rt: &impl Abort,
+    alloc: Global,
+    round: u32,
+    oid: u32,
+    place: u32,
+) -> Result<Change, Fail> {
+    let at = coordinates_of(place);
+    let region = region_of([(at[0], at[0]), (at[1], at[1])])?;
+    assert!(rt; region.volume() <= MAX_TILE_CELLS);
+    let mut numbers = Numbers::new();
+    numbers.push(i64::from(round));
+    numbers.push(i64::from(oid));
+    numbers.push(i64::from(place));
+    let tile = Arc::new(alloc, Tile::filled(alloc, region, &numbers)?)?;
+    let name = name_of(alloc)?;
+    Ok(Change::Tile(name, u64::from(oid), point_of(at), Some(tile)))
+}
+
+/// Changes of the hundred tiles of one array.
+fn change_tiles(
+    rt: &impl Abort,
+    alloc: Global,
+    changes: &mut Changes,
+    round: u32,
+    oid: u32,
+) -> Result<(), Fail> {
+    for place in 0..100u32 {
+        add(alloc, changes, cell_change(rt, alloc, round, oid, place)?)?;
+    }
+    Ok(())
+}
+
+/// Changes of all tiles of a hundred arrays.
+fn change_all(rt: &impl Abort, alloc: Global, round: u32) -> Result<Changes, Fail> {
+    let mut changes = Changes::new(alloc);
+    for oid in 1..101u32 {
+        change_tiles(rt, alloc, &mut changes, round, oid)?;
+    }
+    Ok(changes)
+}
+
+/// Asserts that the hundred tiles of one array have the numbers of a round.
+fn check_tiles(
+    rt: &impl Abort,
+    alloc: Global,
+    store: &Store,
+    round: u32,
+    oid: u32,
+) -> Result<(), Fail> {
+    let name = name_of(alloc)?;
+    for place in 0..100u32 {
+        let at = point_of(coordinates_of(place));
+        let tile = store.tile_of(&name, u64::from(oid), &at).ok_or("no tile")?;
+        let numbers = numbers_in(rt, alloc, tile)?;
+        let wanted = [i64::from(round), i64::from(oid), i64::from(place)];
+        assert_eq!(rt; numbers.as_slice(), wanted.as_slice());
+    }
+    Ok(())
+}
+
+#[test]
+fn ten_thousand_tiles_are_changed_and_found(rt: HostRuntime) -> Result<(), Fail> {
+    let mut store = Store::new(rt.alloc());
+    for round in 1..4u32 {
+        apply(rt.alloc(), &mut store, change_all(&rt, rt.alloc(), round)?)?;
+        for oid in 1..101u32 {
+            check_tiles(&rt, rt.alloc(), &store, round, oid)?;
+        }
+    }
+    Ok(())
 }
 
 #[test]
