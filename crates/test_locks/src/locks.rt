@@ -29,12 +29,7 @@ fn add(alloc: Global, list: &mut LockList, lock: Lock) -> Result<(), AllocError>
 }
 
 /// What a select needs of the array, and a lock on one of its tiles.
-fn on_tile(
-    alloc: Global,
-    row: i64,
-    column: i64,
-    mode: Mode,
-) -> Result<LockList, AllocError> {
+fn on_tile(alloc: Global, row: i64, column: i64, mode: Mode) -> Result<LockList, AllocError> {
     let mut list = LockList::new(alloc);
     add(alloc, &mut list, (collection(alloc)?, Mode::Shared))?;
     add(alloc, &mut list, (domain(alloc)?, Mode::Shared))?;
@@ -80,7 +75,11 @@ fn a_tile_is_refused_until_its_holder_ends(rt: HostRuntime) -> Result<(), Fail> 
     ];
     for (owner, row, column, mode, want) in steps {
         let list = on_tile(alloc, row, column, mode)?;
-        assert_eq!(rt; ask(alloc, &mut table, list, owner)?, want, "{owner} [{row},{column}]");
+        assert_eq!(rt;
+            ask(alloc, &mut table, list, owner)?,
+            want,
+            "{owner} [{row},{column}]"
+        );
     }
     table.release_all(1);
     let list = on_tile(alloc, 0, 0, Mode::Exclusive)?;
