@@ -1,2 +1,7 @@
 pub mod Cells
+pub mod CoreAsks
+pub mod CoreSteps
+pub mod Counted
+pub mod Righted
+pub mod Shorter
 pub mod Tiles

@@ -1,1 +1,5 @@
+pub mod Asking
+pub mod Counts
 pub mod First
+pub mod Journal
+pub mod States

@@ -7,9 +7,6 @@ use ras_domain::{Bounds, Interval, List, LockList, LockName, Mode, Name, Region}
 use std::alloc::{AllocError, Global};
 use std::marker::Model;
 
-#[cfg(test)]
-mod tests;
-
 /// An event of the history. Grants name the phase of the statement that asked for them.
 #[derive(Debug, Drop)]
 pub enum FirstEvent {

@@ -1,6 +1,11 @@
 //! The committed state of the database and the history of its events.
 #![tactic(auto)]
 
+mod asked;
 mod first;
+mod journal;
+mod state;
 
+pub use asked::Asked;
 pub use first::{FirstCore, FirstEvent};
+pub use state::Core;
