@@ -1,1 +1,4 @@
 pub mod Joints
+pub mod TreeForms
+pub mod Axes
+pub mod AtomsInTurn

@@ -1,1 +1,4 @@
 pub mod Joint
+pub mod Seen
+pub mod Domains
+pub mod Composites

@@ -139,7 +139,7 @@ pub fn choice_kind(arms: &[(TypedExpr, TypedExpr)], other: &TypedExpr) -> Result
 }
 
 /// How many axes the arrays among the parts have.
-fn joint_of_parts(parts: &[TypedExpr]) -> Joint
+pub(crate) fn joint_of_parts(parts: &[TypedExpr]) -> Joint
     ensures { result ≡ joint_of (kinds_of parts.now) }
 {
     parts

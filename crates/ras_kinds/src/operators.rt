@@ -5,10 +5,12 @@ ghost use Rattle.ras_cells.specs.declared.cell.CellType.{CellType as CellTypeSee
 ghost use Rattle.spec_expressions.specs.Kinds as spec;
 ghost use Rattle.spec_expressions.specs.Check as check;
 
-use crate::cell_types::{cast_type, cells_type, is_bool, is_number, join_of, type1_of, type2_of};
+use crate::cell_types::{
+    cast_type, cells_type, copy_of_type, is_bool, is_number, join_of, type1_of, type2_of,
+};
 use crate::rules::{Joint, scalar_kind};
 use ras_cells::{Atom, CellType, Op1, Op2};
-use ras_syntax::{CellsFold, CheckFault, Kind};
+use ras_syntax::{CellsFold, CheckFault, CheckedSource, Kind};
 
 /// Whether the expression is one number.
 pub fn is_scalar_number(kind: &Kind) -> bool
@@ -135,5 +137,15 @@ pub fn sdom_kind(a: &Kind) -> Result<Kind, CheckFault>
     match a {
         Kind::Array { cell: _, axes } => Ok(Kind::Domain { axes: *axes }),
         _ => Err(CheckFault::TypeMismatch),
+    }
+}
+
+/// The kind of an iterator: an array of its set type's cells, with as many axes as that has.
+pub fn iterator_kind(source: &CheckedSource) -> Kind
+    ensures { result ≡ check.iterator_kind source.now }
+{
+    Kind::Array {
+        cell: copy_of_type(&source.of.cell),
+        axes: source.of.bounds.len() as u32,
     }
 }
