@@ -2,3 +2,5 @@ pub mod Joints
 pub mod TreeForms
 pub mod Axes
 pub mod AtomsInTurn
+pub mod TreeNames
+pub mod Parts

@@ -104,7 +104,7 @@ index_is e axes =
     ap form_in (sym (typed.rolls-Index e axes))
     ∙ fold-roll-TypedForm (Axes → Axes) Domain Form Tree axis_tree_step domain_tree_step form_tree_step expr_tree_step (TypedForm-F.Index e axes)
 
-index_seen : (x e : TypedExpr) (axes : List TypedAxis) → (out-TypedExpr x).form ≡ typed.Index e axes
+pub index_seen : (x e : TypedExpr) (axes : List TypedAxis) → (out-TypedExpr x).form ≡ typed.Index e axes
     → tree_of x ≡ node (out-TypedExpr x).span (out-TypedExpr x).kind (index_form (tree_of e) (tree_of_axes axes))
 index_seen x e axes h =
     fold_out-TypedExpr (Axes → Axes) Domain Form Tree axis_tree_step domain_tree_step form_tree_step expr_tree_step x
