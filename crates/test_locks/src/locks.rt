@@ -135,7 +135,7 @@ fn a_table_agrees_with_a_plain_account(rt: HostRuntime) -> Result<(), Fail> {
     let mut draw: u32 = 1;
     let mut granted: u32 = 0;
     for step in 0..1_500u32 {
-        draw = (draw * 171 + 11) % 30_269;
+        draw = (draw % 30_269 * 171 + 11) % 30_269;
         let owner = 1 + draw % 6;
         let number = i64::from((draw / 6) % 40);
         let mode = if draw % 5 == 0 {
