@@ -1,0 +1,4 @@
+pub mod Joined
+pub mod Listed
+pub mod Kept
+pub mod Passing
