@@ -1,0 +1,12 @@
+pub mod Arms
+pub mod Bounds
+pub mod Commons
+pub mod Follow
+pub mod IndexTurns
+pub mod Indexing
+pub mod Looking
+pub mod Loops
+pub mod Places
+pub mod TreesSeen
+pub mod Turns
+pub mod Volumes
