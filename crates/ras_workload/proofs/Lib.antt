@@ -1,0 +1,9 @@
+pub mod ByLine
+pub mod Declaring
+pub mod Extents
+pub mod Free
+pub mod Growing
+pub mod Headed
+pub mod Parts
+pub mod Texts
+pub mod TypeTokens

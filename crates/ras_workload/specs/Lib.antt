@@ -1,0 +1,12 @@
+pub mod Cells
+pub mod Headed
+pub mod Headings
+pub mod Kept
+pub mod Lines
+pub mod Outlines
+pub mod Pieces
+pub mod PieceViews
+pub mod SectionViews
+pub mod Texts
+pub mod Told
+pub mod TypeParts
