@@ -143,7 +143,7 @@ fn a_table_agrees_with_a_plain_account(rt: HostRuntime) -> Result<(), Fail> {
         } else {
             Mode::Shared
         };
-        let list = one_lock(alloc, tile(alloc, number, -number)?, mode)?;
+        let list = one_lock(alloc, tile(alloc, number, 0)?, mode)?;
         let told = ask(alloc, &mut table, list, owner)?.map(|found| found.1);
         let want = least_conflict(account.as_slice(), (number, owner, mode));
         assert_eq!(rt; told, want, "step {step}");
@@ -158,7 +158,7 @@ fn a_table_agrees_with_a_plain_account(rt: HostRuntime) -> Result<(), Fail> {
     }
     assert!(rt; granted > 500);
     for number in 0..40i64 {
-        let name = tile(alloc, number, -number)?;
+        let name = tile(alloc, number, 0)?;
         assert_eq!(rt;
             table.holders(&name).len(),
             count_of(account.as_slice(), number),
