@@ -1,0 +1,3 @@
+pub mod ScopeView
+pub mod Walk
+pub mod Statements
