@@ -1,0 +1,5 @@
+pub mod Arrays
+pub mod Databases
+pub mod Held
+pub mod Members
+pub mod Shows
