@@ -1,4 +1,5 @@
 pub mod Arrays
+pub mod Consequences
 pub mod Databases
 pub mod Held
 pub mod Members
