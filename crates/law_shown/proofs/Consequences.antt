@@ -1,5 +1,5 @@
 -- What the definitions give over the database that holdings show, they give over each for which the holdings stand.
-use Rattle.std.proofs.Common.{◌≡◌, ℕ, ◌<◌, ◌≤◌, false, if◌then◌else◌, List, [], Ok, sym, ◌∙◌}
+use Rattle.std.proofs.Common.{◌≡◌, ℕ, ◌<◌, ◌≤◌, false, if◌then◌else◌, List, [], Ok, sym, ◌∙◌, subst, arith}
 use Rattle.ras_syntax.specs.declared.faults.ShapeFault.TheVariants.{TooManyLocks}
 use Rattle.ras_syntax.specs.declared.statement.Statement.{Statement}
 use Rattle.ras_syntax.specs.declared.types.SetType.{SetType}
@@ -7,14 +7,17 @@ use Rattle.ras_syntax.specs.declared.typed.Checked.{Checked}
 use Rattle.spec_expressions.specs.Database.{Database}
 use Rattle.spec_shown.specs.Standing.{IsShown}
 use Rattle.spec_statements.specs.Effects.{reply_of_checked}
+use Rattle.spec_statements.specs.Locks.{Lock}
 use Rattle.spec_statements.specs.Machine.{checked_over, first_list, is_too_long, needs_of, reply_after_check, reply_of}
 use Rattle.spec_statements.specs.Phases.{needs_2, needs_3, needs_4}
+use Rattle.spec_statements.specs.ReachLaw.{AreNamedIn}
 use Rattle.spec_statements.specs.Reply.{misfit}
 use Rattle.spec_statements.specs.Statement.{StatementTree, statement_tree_of}
-use Rattle.spec_views.specs.Holdings.{Holdings, IsSeenBy, passing_by}
+use Rattle.spec_views.specs.Holdings.{Holdings, IsSeenBy, lists_before, passing_by}
 use Rattle.spec_views.specs.Writings.{written_by}
-use Rattle.law_effects.proofs.Phases.{later_is}
-use Rattle.law_views.proofs.Seen.{seen_answers, seen_early, seen_needs, seen_passing}
+use Rattle.law_effects.proofs.Phases.{first_is, later_is}
+use Rattle.law_locks.proofs.Collections.{checked_same}
+use Rattle.law_views.proofs.Seen.{earlier_listed, seen_agree, seen_answers, seen_early, seen_needs, seen_passing}
 use Rattle.law_views.proofs.Writings.{seen_writes}
 
 module _ (types : List SetType) (statement : Statement) (holdings : Holdings) (checked : Checked) where
@@ -40,6 +43,14 @@ module _ (types : List SetType) (statement : Statement) (holdings : Holdings) (c
 
     pub same_writings : IsShown types statement holdings checked 5 shown → IsSeenBy types holdings statement 5 other → written_by tree other ≡ written_by tree shown
     same_writings is seen = sym (seen_writes types statement holdings shown other is.setting checked short is.check is.seen seen)
+
+    pub same_check : (phase : ℕ) → 2 ≤ phase → IsShown types statement holdings checked phase shown → IsSeenBy types holdings statement phase other
+        → checked_over types statement other ≡ Ok checked
+    same_check phase later is seen =
+        let list : List Lock = lists_before types statement phase shown in
+        let covers : AreNamedIn (first_list statement) list =
+        subst (λ l. AreNamedIn l list) (first_is types statement shown short) (earlier_listed types statement shown 1 phase (omega (arith, later))) in
+        sym (checked_same types statement list shown other (seen_agree types statement holdings shown other is.setting phase is.seen seen) covers) ∙ is.check
 
     -- the reply is that of the checked statement
     reply_is : checked_over types statement shown ≡ Ok checked → reply_of types statement shown ≡ reply_of_checked tree shown

@@ -24,6 +24,14 @@ pub fn holdings_show_a_database()
         → (shown : Database) × IsShown types statement holdings checked phase shown }
 {}
 
+/// The check of the statement over each other database for which they stand is the same.
+pub fn shown_check()
+    ensures { (types : List SetType) (statement : Statement) (holdings : Holdings) (checked : Checked) (phase : ℕ)
+        (shown other : Database) → is_too_long (first_list statement) ≡ false → 2 ≤ phase
+        → IsShown types statement holdings checked phase shown → IsSeenBy types holdings statement phase other
+        → checked_over types statement other ≡ Ok checked }
+{}
+
 /// Each other database for which they stand has the same list of the next phase; by the phase, it is the
 /// list that the checked statement needs over what is shown.
 pub fn shown_lists()
