@@ -1,6 +1,5 @@
 -- How what the code answers stands for what the definitions say. Want of memory stands for nothing: it may come at any call.
-use Rattle.std.specs.Prelude.{◌≡◌, List, Result, Ok, Err}
-use Rattle.ras_domain.specs.declared.region.Interval.{Interval}
+use Rattle.std.specs.Prelude.{◌≡◌, Result, Ok, Err}
 use Rattle.spec_expressions.specs.Shape.{Box, Shape, scalar, array, box, ShapeMisfit}
 use Rattle.ras_shape.specs.declared.form.Form.{Form}
 use Rattle.ras_shape.specs.declared.form.Form.TheVariants as forms
