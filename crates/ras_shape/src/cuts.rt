@@ -12,8 +12,8 @@ use ras_syntax::{ShapeFault, Span};
 use std::alloc::{AllocError, Global};
 
 /// What an index does to an axis.
-#[derive(Clone, Copy)]
-pub(crate) enum Cut {
+#[derive(Clone, Copy, Debug, PartialEq, Eq)]
+pub enum Cut {
     /// It takes this position.
     Fixed(i64),
     /// It takes a position that each cell has for itself.

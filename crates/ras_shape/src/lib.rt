@@ -14,5 +14,6 @@ pub mod sizes;
 mod walk;
 pub mod ways;
 
+pub use cuts::Cut;
 pub use form::{Form, ShapeError};
-pub use shapes::shape;
+pub use shapes::{index_cuts, shape};

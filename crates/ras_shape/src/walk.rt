@@ -218,7 +218,7 @@ fn see_offsets(
 /// The cuts of an index over an array with these axes, or the first fault.
 #[cycle(see)]
 #[tactic(auto, using(crate::proofs::IndexTurns::index_turns))]
-fn see_cuts(
+pub(crate) fn see_cuts(
     alloc: Global,
     index: &[TypedAxis],
     axes: &[Interval],
