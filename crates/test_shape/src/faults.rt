@@ -818,41 +818,17 @@ const OF_PARTS: &[Row] = &[
 ];
 
 #[test]
-fn parts_lie_inside(rt: HostRuntime) {
+fn each_form_has_its_faults(rt: HostRuntime) {
     judge(&rt, OUTSIDE);
-}
-
-#[test]
-fn arrays_of_one_operation_have_one_domain(rt: HostRuntime) {
     judge(&rt, DIFFERENT);
-}
-
-#[test]
-fn joined_parts_have_one_extent(rt: HostRuntime) {
     judge(&rt, EXTENTS);
-}
-
-#[test]
-fn no_axis_is_empty(rt: HostRuntime) {
     judge(&rt, EMPTY);
-}
-
-#[test]
-fn bounds_have_32_bits(rt: HostRuntime) {
     judge(&rt, BOUNDS);
-}
-
-#[test]
-fn arrays_have_a_largest_size(rt: HostRuntime) {
     judge(&rt, TOO_LARGE);
 }
 
 #[test]
-fn the_first_fault_of_one_box_is_told(rt: HostRuntime) {
+fn the_first_of_several_faults_is_told(rt: HostRuntime) {
     judge(&rt, OF_ONE_BOX);
-}
-
-#[test]
-fn parts_are_told_before_the_whole(rt: HostRuntime) {
     judge(&rt, OF_PARTS);
 }

@@ -486,22 +486,10 @@ const LARGEST: &[Row] = &[
 ];
 
 #[test]
-fn operators_have_the_domain_of_their_arrays(rt: HostRuntime) {
+fn each_form_stands_for_its_shape(rt: HostRuntime) {
     judge(&rt, OPERATORS);
-}
-
-#[test]
-fn indexes_cut(rt: HostRuntime) {
     judge(&rt, INDEXES);
-}
-
-#[test]
-fn arrays_are_made_and_moved(rt: HostRuntime) {
     judge(&rt, MADE);
-}
-
-#[test]
-fn folds_have_one_cell_and_domains_stand(rt: HostRuntime) {
     judge(&rt, CELLS);
 }
 

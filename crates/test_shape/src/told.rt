@@ -37,7 +37,7 @@ pub const LOWEST: Axes = &[(-2_147_483_648, -2_147_483_647), (0, 0)];
 pub type Row = (&'static str, &'static [Axes], Shown);
 
 /// What a body stands for.
-#[derive(Clone, Copy, Debug)]
+#[derive(Clone, Copy)]
 pub enum Shown {
     Scalar,
     Array(Axes),
@@ -99,21 +99,33 @@ fn grey() -> CellType {
     CellType::Atom(Atom::Char)
 }
 
+/// Greys with one axis, of which 0 reads as null.
+fn nil_type(alloc: Global) -> Result<SetType, AllocError> {
+    let mut of = of_axes(alloc, b"NilSet", grey(), List::new(alloc), 1)?;
+    let _ = of.nulls.try_push((0, 0));
+    Ok(of)
+}
+
+/// One more type. What isn't taken counts as want of memory.
+fn add(alloc: Global, types: &mut Types, of: SetType) -> Result<(), AllocError> {
+    let Ok(()) = types.push(alloc, of) else {
+        return Err(AllocError);
+    };
+    Ok(())
+}
+
 /// The types GreySet, NilSet and RgbSet, in this order.
 fn types_of(alloc: Global) -> Result<Types, AllocError> {
-    let mut nil = of_axes(alloc, b"NilSet", grey(), List::new(alloc), 1)?;
-    let _ = nil.nulls.try_push((0, 0));
-    let all = [
-        of_axes(alloc, b"GreySet", grey(), List::new(alloc), 2)?,
-        nil,
-        of_axes(alloc, b"RgbSet", colour(), colour_names(alloc)?, 1)?,
-    ];
+    let grey_set = of_axes(alloc, b"GreySet", grey(), List::new(alloc), 2)?;
     let mut types = Types::new(alloc);
-    for of in all {
-        let Ok(()) = types.push(alloc, of) else {
-            return Err(AllocError);
-        };
-    }
+    add(alloc, &mut types, grey_set)?;
+    add(alloc, &mut types, nil_type(alloc)?)?;
+    let names = colour_names(alloc)?;
+    add(
+        alloc,
+        &mut types,
+        of_axes(alloc, b"RgbSet", colour(), names, 1)?,
+    )?;
     Ok(types)
 }
 
