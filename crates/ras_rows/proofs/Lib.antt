@@ -1,0 +1,5 @@
+pub mod Conjuncts
+pub mod Counts
+pub mod Limited
+pub mod Lookups
+pub mod RowAt

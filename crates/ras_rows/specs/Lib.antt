@@ -1,0 +1,4 @@
+pub mod Arrays
+pub mod Asked
+pub mod RowsKept
+pub mod Stops

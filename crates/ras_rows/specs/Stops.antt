@@ -1,0 +1,15 @@
+-- How what the code answers stands for what the definitions say. Want of memory stands for nothing: it may come at any call.
+use Rattle.std.specs.Prelude.{◌≡◌, Result, Ok, Err}
+use Rattle.ras_rows.specs.declared.stop.Stop.{Stop}
+use Rattle.ras_rows.specs.declared.stop.Stop.TheVariants.{Answer, Memory}
+use Rattle.spec_statements.specs.Reply.{Reply, reply_of_answer}
+
+-- the stop is the reply that is wanted, or want of memory
+abbrev pub IsStop : {B : Type 0} → Result B Reply → Stop → Type 0
+IsStop wanted (Answer answer) = wanted ≡ Err (reply_of_answer answer)
+IsStop wanted Memory = Unit {0}
+
+-- the answer, seen by a view of it, is the outcome that is wanted, or want of memory
+abbrev pub GivesOrStops : {A B : Type 0} → (A → B) → Result B Reply → Result A Stop → Type 0
+GivesOrStops view wanted (Ok a) = wanted ≡ Ok (view a)
+GivesOrStops view wanted (Err stop) = IsStop wanted stop

@@ -1,0 +1,31 @@
+//! Why the work on a statement stops.
+ghost use Rattle.std.specs.Prelude.{◌≡◌};
+ghost use Rattle.ras_rows.specs.declared.stop.Stop.TheVariants.{Memory};
+
+use ras_syntax::Answer;
+use std::alloc::{AllocError, AllocFailed};
+
+/// Why the work on a statement stops before its end.
+#[derive(Debug, Drop)]
+pub enum Stop {
+    /// The statement has this answer.
+    Answer(Answer),
+    /// There is not enough memory.
+    Memory,
+}
+
+impl From<AllocError> for Stop {
+    ghost from_gives = { λ _ stop. stop ≡ Memory };
+
+    fn from(_: AllocError) -> Stop {
+        Stop::Memory
+    }
+}
+
+impl<T: Drop> From<AllocFailed<T>> for Stop {
+    ghost from_gives = { λ _ stop. stop ≡ Memory };
+
+    fn from(_: AllocFailed<T>) -> Stop {
+        Stop::Memory
+    }
+}
