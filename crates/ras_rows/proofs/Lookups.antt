@@ -10,7 +10,7 @@ use Rattle.std.proofs.lemmas.Cmp.{eq_by_cmp_equiv}
 use Rattle.std.proofs.lemmas.Map.Keys.{IsDistinct-from_sorted}
 use Rattle.std.proofs.lemmas.Map.Views.{Contains-from_lookup, lookup-from_Contains, tells_apart}
 use Rattle.law_lists.proofs.Elements.{Contains-here, Contains-map, Contains-there, first_or_later}
-use Rattle.ras_domain.specs.Region.{IsIn, points_of, place_in_rows}
+use Rattle.ras_domain.specs.Region.{IsIn, points_of}
 use Rattle.ras_domain.proofs.Points.{Contains-IsIn}
 use Rattle.ras_domain.proofs.RowOrder.{place_in_rows-at, points_of-ascends}
 use Rattle.ras_index.proofs.Slots.{row_major_exact, row_major_total}

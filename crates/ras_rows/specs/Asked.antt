@@ -1,5 +1,5 @@
 -- What the two sides of an equation ask for.
-use Rattle.std.specs.Prelude.{ℕ, ℤ, pos, Bool, true, false, not, ◌&&◌}
+use Rattle.std.specs.Prelude.{ℕ, pos, Bool, false, not, ◌&&◌}
 use Rattle.std.specs.Ordering.{int_eq}
 use Rattle.spec_expressions.specs.Tree.{NameOf, Tree, Form, is_same_name, node, number, oid}
 

@@ -2,14 +2,12 @@
 use Rattle.std.specs.Prelude.{◌≡◌, ℕ, ◌*◌, ◌≤◌, List, [], ◌∷◌, length, map, Vec}
 use Rattle.std.specs.List.{zip}
 use Rattle.std.specs.Global.{Global}
-use Rattle.ras_store.specs.declared.view.View.{View}
 use Rattle.ras_syntax.specs.declared.typed.CheckedSource.{CheckedSource}
 use Rattle.ras_syntax.specs.declared.limits.TheConstants.{MAX_ROWS}
 use Rattle.spec_expressions.specs.Database.{Member}
 use Rattle.spec_statements.specs.Rows.{Row, combinations, with_row_numbers}
 use Rattle.spec_shown.specs.Shown.{member_shown}
 use Rattle.spec_views.specs.Holdings.{Holdings}
-use Rattle.ras_rows.specs.Arrays.{holdings_in}
 
 -- the identifiers of a source's arrays
 abbrev pub Oids : Type 0

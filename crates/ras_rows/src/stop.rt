@@ -1,7 +1,9 @@
 //! Why the work on a statement stops.
 ghost use Rattle.std.specs.Prelude.{◌≡◌};
+ghost use Rattle.ras_rows.specs.Stops.{stop_of};
 ghost use Rattle.ras_rows.specs.declared.stop.Stop.TheVariants.{Memory};
 
+use ras_shape::ShapeError;
 use ras_syntax::Answer;
 use std::alloc::{AllocError, AllocFailed};
 
@@ -27,5 +29,15 @@ impl<T: Drop> From<AllocFailed<T>> for Stop {
 
     fn from(_: AllocFailed<T>) -> Stop {
         Stop::Memory
+    }
+}
+
+/// The stop at a shape fault in the row of this number.
+pub(crate) fn stop_in_row(row: u64, error: ShapeError) -> Stop
+    ensures { result ≡ stop_of row error }
+{
+    match error {
+        ShapeError::Fault { span, fault } => Stop::Answer(Answer::Shape { row, span, fault }),
+        ShapeError::Memory => Stop::Memory,
     }
 }

@@ -1,4 +1,4 @@
-use Rattle.std.proofs.Common.{◌≡◌, map, take}
+use Rattle.std.proofs.Common.{◌≡◌, take}
 use Rattle.spec_shown.specs.Shown.{least_domain}
 use Rattle.ras_rows.proofs.array.least_domain.Given as goal
 

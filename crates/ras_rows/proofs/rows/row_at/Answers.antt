@@ -1,5 +1,3 @@
-use Rattle.std.proofs.Common.{ap, ◌++◌, ◌∷◌, [], ◌∙◌}
-use Rattle.spec_expressions.specs.Database.{Member}
 use Rattle.ras_rows.specs.Arrays.{holdings_in}
 use Rattle.ras_rows.proofs.RowAt.{row_bound, row_ends, row_goes}
 use Rattle.ras_rows.proofs.rows.row_at.Goals as goal

@@ -3,7 +3,7 @@ use Rattle.ras_domain.specs.declared.lock.LockName.TheVariants.{Tile}
 use Rattle.ras_domain.proofs.Points.{length-from_IsIn}
 use Rattle.spec_expressions.specs.Database.{Member, stored_at}
 use Rattle.spec_expressions.specs.Shape.{Box}
-use Rattle.spec_shown.specs.Shown.{array_within, domain_shown, numbers_shown}
+use Rattle.spec_shown.specs.Shown.{array_within, numbers_shown}
 use Rattle.ras_rows.specs.Arrays.{holdings_in}
 use Rattle.ras_rows.proofs.Lookups.{stored-here, stored-out}
 use Rattle.ras_rows.proofs.array.ShownArray.stored.Goals as goal

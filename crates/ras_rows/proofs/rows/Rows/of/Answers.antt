@@ -1,4 +1,4 @@
-use Rattle.std.proofs.Common.{◌≡◌, ◌+◌, ap, subst, sym, min, ◌∙◌, List}
+use Rattle.std.proofs.Common.{◌+◌, ap, min, ◌∙◌, List}
 use Rattle.std.specs.Option.{option_copied}
 use Rattle.spec_statements.specs.Limits.{limited_rows}
 use Rattle.spec_statements.specs.Rows.{Row}
@@ -6,7 +6,7 @@ use Rattle.spec_statements.specs.Statement.{statement_tree_of}
 use Rattle.ras_syntax.specs.declared.limits.TheConstants.{MAX_ROWS}
 use Rattle.ras_rows.specs.Arrays.{holdings_in}
 use Rattle.ras_rows.specs.RowsKept.{Oids, row_count}
-use Rattle.ras_rows.proofs.Limited.{rows-few, rows-kept, rows-many}
+use Rattle.ras_rows.proofs.Limited.{rows-few, rows-many}
 use Rattle.ras_rows.proofs.rows.Rows.of.Goals as goal
 
 pub returns-then-count-gt-MAX_ROWS-clause-shown : goal.returns-then-count-gt-MAX_ROWS-clause-shown
