@@ -11,7 +11,8 @@ use Rattle.ras_syntax.specs.declared.typed.TypedAxis.{TypedAxis}
 use Rattle.ras_syntax.specs.declared.typed.TypedExpr.{TypedExpr, out-TypedExpr}
 use Rattle.ras_syntax.specs.declared.typed.TypedForm.TheVariants as typed
 use Rattle.spec_expressions.specs.Check.{tree_of_axes}
-use Rattle.spec_expressions.specs.Tree.{NameOf, Tree, Form, Axes, node, number, variable, coordinate, index, at_point, domain_of, interval_of, binary, oid, no_axes, position, index_form, is_same_name, tree_of}
+use Rattle.spec_expressions.specs.Tree.{NameOf, Tree, Form, Axes, node, no_axes, position, index_form, is_same_name, tree_of}
+use Rattle.spec_expressions.specs.Tree.{number, variable, coordinate, index, at_point, domain_of, interval_of, binary, oid}
 use Rattle.spec_statements.specs.Rows.{asked_by, asked_in, is_asked}
 use Rattle.ras_shape.proofs.TreesSeen.{node_Binary, node_Index}
 use Rattle.ras_rows.specs.Asked.{is_allowed_by_equation, is_oid_form, is_oid_of, is_other_form, is_other_number}

@@ -3,6 +3,7 @@ pub mod Conjuncts
 pub mod Counts
 pub mod Limited
 pub mod Lookups
+pub mod Named
 pub mod Planned
 pub mod RowAt
 pub mod Targets

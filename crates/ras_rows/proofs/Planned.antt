@@ -15,7 +15,8 @@ use Rattle.spec_statements.specs.Plans.{row_plan, update_plan}
 use Rattle.spec_statements.specs.Rows.{Row}
 use Rattle.spec_statements.specs.Statement.{request_of}
 
-pub whole-of : (form : CheckedForm) (source : CheckedSource) (axes : Option (List TypedAxis)) (target : Span) (body : TypedExpr) (cond : Option TypedExpr) (number : ℕ) (row : Row) (result : Result PlanMade ShapeError)
+pub whole-of : (form : CheckedForm) (source : CheckedSource) (axes : Option (List TypedAxis)) (target : Span) (body : TypedExpr) (cond : Option TypedExpr) (number : ℕ) (row : Row)
+    (result : Result PlanMade ShapeError)
     → form ≡ Update source axes target body cond → axes ≡ None → GivesAs plan_seen (update_plan source.of target (tree_of body) None (number, row)) result
     → GivesAs plan_seen (row_plan (request_of form) (number, row)) result
 whole-of form source axes target body cond number row result is none gives =

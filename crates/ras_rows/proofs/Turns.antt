@@ -160,14 +160,16 @@ mapped-turn f xs i x y made new within x_is so_far y_is new_is =
     let here : get_or (map f xs) i (f x) ≡ f x = get_or-map f xs i x (f x) within ∙ ap f (sym x_is) in
     new_is ∙ ap (λ ys. ys ++ y ∷ []) so_far ∙ ap (λ z. take i (map f xs) ++ z ∷ []) (y_is ∙ sym here) ∙ sym (take_more (map f xs) i (f x) inside)
 
-pub summed-turn : {X : Type 0} (f : X → ℕ) (xs : List X) (i : ℕ) (x : X) (n s : ℕ) → i < length xs → x ≡ get_or xs i x → s ≡ sum (take i (map f xs)) → n ≡ f x → s + n ≡ sum (take (i + 1) (map f xs))
+pub summed-turn : {X : Type 0} (f : X → ℕ) (xs : List X) (i : ℕ) (x : X) (n s : ℕ) → i < length xs → x ≡ get_or xs i x → s ≡ sum (take i (map f xs)) → n ≡ f x
+    → s + n ≡ sum (take (i + 1) (map f xs))
 summed-turn f xs i x n s within x_is so_far n_is =
     let inside : i < length (map f xs) = omega (arith, within, length-map xs f) in
     let here : get_or (map f xs) i (f x) ≡ f x = get_or-map f xs i x (f x) within ∙ ap f (sym x_is) in
     let more : sum (take (i + 1) (map f xs)) ≡ sum (take i (map f xs)) + get_or (map f xs) i (f x) = sum_by_more (λ (m : ℕ). m) (map f xs) i (f x) inside in
     omega (arith, more, here, so_far, n_is)
 
-pub summed-above : {X : Type 0} (f : X → ℕ) (xs : List X) (i : ℕ) (x : X) (n s most : ℕ) → i < length xs → x ≡ get_or xs i x → s ≡ sum (take i (map f xs)) → n ≡ f x → most < s + n → true ≡ nat_lt most (sum (map f xs))
+pub summed-above : {X : Type 0} (f : X → ℕ) (xs : List X) (i : ℕ) (x : X) (n s most : ℕ) → i < length xs → x ≡ get_or xs i x → s ≡ sum (take i (map f xs)) → n ≡ f x
+    → most < s + n → true ≡ nat_lt most (sum (map f xs))
 summed-above f xs i x n s most within x_is so_far n_is above =
     let turn = summed-turn f xs i x n s within x_is so_far n_is in
     let front : sum (take (i + 1) (map f xs)) ≤ sum (map f xs) = sum_by-take-le (λ (m : ℕ). m) (map f xs) (i + 1) in

@@ -149,7 +149,8 @@ pub(crate) fn is_grid(extents: &Extents) -> bool
 
 /// The numbers at a point that the tile at this place has, zeros where the view has no such tile.
 fn numbers_at(view: &View, source: &CheckedSource, oid: u64, place: &Point, p: &Point) -> Numbers
-    ensures { result.items ≡ numbers_shown source.now.of (holdings_in view.now (TileName source.now.collection oid place.now)) p.now.items }
+    ensures { result.items
+        ≡ numbers_shown source.now.of (holdings_in view.now (TileName source.now.collection oid place.now)) p.now.items }
 {
     match view.tile_of(&source.collection, oid, place) {
         Some(tile) => numbers_in(tile, &source.of, p),

@@ -2,7 +2,8 @@
 ghost use Rattle.std.specs.Prelude.{◌≡◌, pos, option_map};
 ghost use Rattle.std.specs.Option.{option_copied};
 ghost use Rattle.std.specs.Ordering.{int_eq};
-ghost use Rattle.ras_rows.specs.Asked.{is_allowed_by_equation as is_allowed_equation, is_oid_of as is_oid_tree, is_other_number as is_other_tree};
+ghost use Rattle.ras_rows.specs.Asked.{is_allowed_by_equation as is_allowed_equation};
+ghost use Rattle.ras_rows.specs.Asked.{is_oid_of as is_oid_tree, is_other_number as is_other_tree};
 ghost use Rattle.spec_expressions.specs.Tree.{condition_of, tree_of};
 ghost use Rattle.spec_statements.specs.Rows.{asked_by, asked_of, is_asked};
 

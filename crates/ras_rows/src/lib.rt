@@ -4,6 +4,7 @@
 mod array;
 mod asked;
 mod cut;
+pub mod laws;
 mod parts;
 mod plan;
 mod plans;

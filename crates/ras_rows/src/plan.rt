@@ -95,7 +95,8 @@ fn plan_of<'a>(
 
 /// A plan that writes nothing.
 fn plan_with<'a>(alloc: Global, number: u64, row: Vec<ShownArray<'a>>, shape: Form) -> Plan<'a>
-    ensures { plan_seen result ≡ record { number = number; row = row.entry.items; shape = shape_of_form shape; cuts = []; writing = None } }
+    ensures { plan_seen result
+        ≡ record { number = number; row = row.entry.items; shape = shape_of_form shape; cuts = []; writing = None } }
 {
     Plan {
         number,
@@ -176,7 +177,8 @@ fn update_part<'a>(
     number: u64,
     row: Vec<ShownArray<'a>>,
 ) -> Result<Plan<'a>, ShapeError>
-    ensures { GivesAs plan_seen (update_plan of.now target (tree_of body.now) (Some (target_axes axes.now)) (number, row.entry.items)) result }
+    ensures { GivesAs plan_seen
+        (update_plan of.now target (tree_of body.now) (Some (target_axes axes.now)) (number, row.entry.items)) result }
 {
     let domains = domains_of(alloc, row.as_slice())?;
     let domain = first_domain(domains.as_slice())?;

@@ -29,7 +29,8 @@ pub fn plan_rows<'a>(
     rows: &RowSet,
 ) -> Result<Vec<Plan<'a>>, Stop>
     ensures { GivesOrStops (λ plans. map plan_seen plans.items)
-        (planned (statement_tree_of checked.now) (rows_listed (holdings_in view.now) (sources_of (request_of checked.now.form)) rows.now)) result }
+        (planned (statement_tree_of checked.now)
+        (rows_listed (holdings_in view.now) (sources_of (request_of checked.now.form)) rows.now)) result }
 {
     let plans = each_plan(alloc, checked, view, rows)?;
     limited(checked, plans)
@@ -43,7 +44,8 @@ fn each_plan<'a>(
     rows: &RowSet,
 ) -> Result<Vec<Plan<'a>>, Stop>
     ensures { GivesOrStops (λ plans. map plan_seen plans.items)
-        (plans_of (request_of checked.now.form) (rows_listed (holdings_in view.now) (sources_of (request_of checked.now.form)) rows.now)) result }
+        (plans_of (request_of checked.now.form)
+        (rows_listed (holdings_in view.now) (sources_of (request_of checked.now.form)) rows.now)) result }
 {
     let sources = sources(&checked.form);
     let mut plans = Vec::new(alloc);
@@ -57,7 +59,8 @@ fn each_plan<'a>(
 
 /// The plans, where the reply of a select isn't too large.
 fn limited<'a>(checked: &Checked, plans: Vec<Plan<'a>>) -> Result<Vec<Plan<'a>>, Stop>
-    ensures { GivesOrStops (λ plans. map plan_seen plans.items) (limited_plans (statement_tree_of checked.now) (map plan_seen plans.entry.items)) result }
+    ensures { GivesOrStops (λ plans. map plan_seen plans.items)
+        (limited_plans (statement_tree_of checked.now) (map plan_seen plans.entry.items)) result }
 {
     if !is_select(&checked.form) {
         return Ok(plans);

@@ -50,7 +50,8 @@ impl<'a> Rows<'a> {
     /// that the condition asks for, in all combinations. Where there are more than [`MAX_ROWS`], the
     /// answer is [`ShapeFault::TooManyRows`] for the whole text; they are counted and not listed.
     pub fn of(alloc: Global, checked: &'a Checked, view: &'a View) -> Result<Rows<'a>, Stop>
-        ensures shown { GivesOrStops (λ rows. rows) (limited_rows (statement_tree_of checked.now) (rows_shown (request_of checked.now.form) (holdings_in view.now))) result }
+        ensures shown { GivesOrStops (λ rows. rows)
+            (limited_rows (statement_tree_of checked.now) (rows_shown (request_of checked.now.form) (holdings_in view.now))) result }
         ensures databases { (database : Database) → IsShownBy (holdings_in view.now) (request_of checked.now.form) database
             → GivesOrStops (λ rows. rows) (until_rows (statement_tree_of checked.now) database) result }
     {
@@ -130,7 +131,8 @@ fn identifiers(
     condition: Option<&TypedExpr>,
 ) -> Result<Vec<Vec<u64>>, AllocError>
     ensures { IfOk result (λ oids. map (λ o. o.items) oids.items
-        ≡ map (identifiers_shown (holdings_in view.now) (asked_of (condition_of (option_map tree_of (option_copied condition.entry))))) sources.now) }
+        ≡ map (identifiers_shown (holdings_in view.now) (asked_of (condition_of (option_map tree_of (option_copied condition.entry)))))
+        sources.now) }
 {
     let mut oids = Vec::new(alloc);
     for source in sources {
@@ -148,7 +150,8 @@ fn identifiers_of(
     condition: Option<&TypedExpr>,
 ) -> Result<Vec<u64>, AllocError>
     ensures { IfOk result (λ oids. oids.items
-        ≡ identifiers_shown (holdings_in view.now) (asked_of (condition_of (option_map tree_of (option_copied condition.entry)))) source.now) }
+        ≡ identifiers_shown (holdings_in view.now) (asked_of (condition_of (option_map tree_of (option_copied condition.entry))))
+        source.now) }
 {
     match view.members(&source.collection) {
         Some(info) => allowed(alloc, info.oids.as_slice(), source, condition),
@@ -200,7 +203,8 @@ fn row_at<'a>(
     requires each_source { length oids.now ≡ length sources.now }
     requires counted { count ≡ row_count oids.now }
     requires within { place < count }
-    ensures { IfOk result (λ row. slice_get (combinations (members_named (holdings_in view.now) sources.now oids.now)) place ≡ Some row.items) }
+    ensures { IfOk result (λ row.
+        slice_get (combinations (members_named (holdings_in view.now) sources.now oids.now)) place ≡ Some row.items) }
 {
     let mut row = Vec::new(alloc);
     // How many rows the sources from here on have, and which of them this is.

@@ -7,11 +7,12 @@ ghost use Rattle.ras_domain.specs.Region.{points_of};
 ghost use Rattle.ras_rows.specs.Plans.{AllowsGrowth, cut_seen, whole_writing, writing_seen};
 ghost use Rattle.ras_shape.specs.Gives.{GivesAs, GivesBox, shape_of_form};
 ghost use Rattle.ras_shape.specs.declared.form.ShapeError.TheVariants.{Fault};
-ghost use Rattle.spec_expressions.specs.Shape.{box_of, is_empty_cut, kept_axes, of_size};
-ghost use Rattle.spec_statements.specs.Plans.{allowed_writing, is_broken_target, target_box, target_interval, writing_over};
+ghost use Rattle.spec_expressions.specs.Shape.{box_of, is_empty_cut as is_empty_cut_of, kept_axes, of_size};
+ghost use Rattle.spec_statements.specs.Plans.{allowed_writing, is_broken_target as is_broken_cut};
+ghost use Rattle.spec_statements.specs.Plans.{target_box, target_interval, writing_over};
 
 use crate::array::is_grid;
-use crate::cut::Cut;
+use crate::cut::{Cut, interval_of, is_broken_target, is_empty_cut};
 use ras_cells::MAX_COMPONENTS;
 use ras_domain::{DomainFault, Interval, MAX_POINTS, Region};
 use ras_grid::count_meeting;
@@ -72,7 +73,8 @@ pub(crate) fn updated(
     region: Region,
     form: &Form,
 ) -> Result<Writing, ShapeError>
-    ensures { GivesAs writing_seen (allowed_writing of.now span (writing_over domain.now region (box_of (shape_of_form form.now)))) result }
+    ensures { GivesAs writing_seen
+        (allowed_writing of.now span (writing_over domain.now region (box_of (shape_of_form form.now)))) result }
 {
     if !lies_within(region.axes(), of.bounds.as_slice()) {
         return Err(fault_at(span, ShapeFault::Outside));
@@ -133,23 +135,23 @@ pub(crate) fn target_region(
 
 /// Whether a cut names no coordinates of 32 bits.
 fn has_broken(cuts: &[Cut]) -> bool
-    ensures { result ≡ list_any (λ cut. is_broken_target (cut_seen cut)) cuts.now }
+    ensures { result ≡ list_any (λ cut. is_broken_cut (cut_seen cut)) cuts.now }
 {
-    cuts.iter().any(|cut| cut.is_broken_target())
+    cuts.iter().any(|cut| is_broken_target(*cut))
 }
 
 /// Whether a cut is an empty trim.
 fn has_empty(cuts: &[Cut]) -> bool
-    ensures { result ≡ list_any (λ cut. is_empty_cut (cut_seen cut)) cuts.now }
+    ensures { result ≡ list_any (λ cut. is_empty_cut_of (cut_seen cut)) cuts.now }
 {
-    cuts.iter().any(|cut| cut.is_empty())
+    cuts.iter().any(|cut| is_empty_cut(*cut))
 }
 
 /// The coordinates that each cut names.
 fn intervals(alloc: Global, cuts: &[Cut]) -> Result<Vec<Interval>, AllocError>
     ensures { IfOk result (λ axes. axes.items ≡ map (λ cut. target_interval (cut_seen cut)) cuts.now) }
 {
-    cuts.iter().map(|cut| cut.interval()).collect(alloc)
+    cuts.iter().map(|cut| interval_of(*cut)).collect(alloc)
 }
 
 /// The region of these intervals, where it has at most 2^24 points and stored numbers. Intervals that

@@ -12,4 +12,5 @@ pub returns-else-contains : goal.returns-else-contains
 returns-else-contains c =
     c.zeros.ensures
     ∙ sym (tile-out c.args.of.now c.args.tile.now c.args.p.now.items c.region.ensures.tile.each_point
-    (λ within. let is_true : c.contains.result ≡ true = c.contains.ensures.1 (subst (IsIn c.args.p.now.items) (sym c.region.ensures.region) within) in let clash : true ≡ false = sym is_true ∙ c.if-contains.false in cc))
+    (λ within. let is_true : c.contains.result ≡ true = c.contains.ensures.1 (subst (IsIn c.args.p.now.items) (sym c.region.ensures.region) within) in
+    let clash : true ≡ false = sym is_true ∙ c.if-contains.false in cc))

@@ -10,7 +10,8 @@ pub returns-then-has_many_numbers : goal.returns-then-has_many_numbers
 returns-then-has_many_numbers c = λ region body inside.
     let writing : Writing = record { region = region; grown = c.args.grown.now; body = body } in
     subst (λ (e : ShapeError). StopsAs (allowed_writing c.args.of.now c.args.span writing) e) (sym c.fault_at.ensures)
-    (many-numbers c.args.of.now c.args.span writing inside (length (points_of c.args.grown.now)) c.width_of.result refl c.width_of.ensures.width (c.has_many_numbers.ensures.many c.if-has_many_numbers.true))
+    (many-numbers c.args.of.now c.args.span writing inside (length (points_of c.args.grown.now)) c.width_of.result refl c.width_of.ensures.width
+    (c.has_many_numbers.ensures.many c.if-has_many_numbers.true))
 
 pub returns-then-count_meeting-gt-MAX_TILES : goal.returns-then-count_meeting-gt-MAX_TILES
 returns-then-count_meeting-gt-MAX_TILES c = λ region body inside.

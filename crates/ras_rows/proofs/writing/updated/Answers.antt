@@ -16,7 +16,8 @@ returns-in-Err c =
     ap (λ (r : Box). lies_in r c.args.of.now.bounds.items) (sym c.axes.ensures.axes) ∙ ap (λ (b : Box). lies_in c.axes.result.now b) (sym c.as_slice.ensures.value)
     ∙ sym c.lies_within.ensures ∙ c.if-not-lies_within.false in
     let many : MAX_POINTS < length (points_of (hull_of c.args.domain.now c.args.region)) = search (rules, c.in-Err.ensures) in
-    subst (λ (e : ShapeError). StopsAs (allowed_writing c.args.of.now c.args.span (writing_over c.args.domain.now c.args.region (box_of (shape_of_form c.args.form.now)))) e) (sym c.fault_at-in-Err.ensures)
+    subst (λ (e : ShapeError). StopsAs (allowed_writing c.args.of.now c.args.span (writing_over c.args.domain.now c.args.region (box_of (shape_of_form c.args.form.now)))) e)
+    (sym c.fault_at-in-Err.ensures)
     (many-points c.args.of.now c.args.span (writing_over c.args.domain.now c.args.region (box_of (shape_of_form c.args.form.now))) inside many)
 
 pub returns-in_err-check_growth : goal.returns-in_err-check_growth

@@ -24,7 +24,8 @@ pub returns : goal.returns
 returns c =
     let kept = c.self.inside in
     ap Some (c.numbers_at.ensures
-    ∙ ap (λ (place : List ℤ). numbers_shown kept.source.now.of (holdings_in kept.view.now (Tile kept.source.now.collection kept.oid (record { items = place }))) c.args.p.now.items) c.tile_of-place.ensures.place)
+    ∙ ap (λ (place : List ℤ). numbers_shown kept.source.now.of (holdings_in kept.view.now (Tile kept.source.now.collection kept.oid (record { items = place }))) c.args.p.now.items)
+    c.tile_of-place.ensures.place)
     ∙ sym (ap (λ (m : Member). stored_at m.array c.args.p.now.items) (sym c.self.view_is)
     ∙ ap (λ (d : Box). stored_at (array_within kept.source.now.of (holdings_in kept.view.now) kept.source.now.collection kept.oid d) c.args.p.now.items) (sym c.self.invariant.shown)
     ∙ stored-here kept.source.now.of (holdings_in kept.view.now) kept.source.now.collection kept.oid kept.domain c.args.p.now.items (c.contains.ensures.0 c.if-not-contains.false))

@@ -11,8 +11,8 @@ use Rattle.ras_rows.proofs.rows.Rows.of.Goals as goal
 
 pub returns-then-count-gt-MAX_ROWS-clause-shown : goal.returns-then-count-gt-MAX_ROWS-clause-shown
 returns-then-count-gt-MAX_ROWS-clause-shown c =
-    rows-many (statement_tree_of c.args.checked.now) (holdings_in c.args.view.now) (option_copied c.condition-condition.result) c.sources-sources.result.now c.in_ok-oids.oids.items c.count_of-count.result
-    c.sources-sources.ensures c.condition-condition.ensures c.in_ok-oids.ensures
+    rows-many (statement_tree_of c.args.checked.now) (holdings_in c.args.view.now) (option_copied c.condition-condition.result) c.sources-sources.result.now c.in_ok-oids.oids.items
+    c.count_of-count.result c.sources-sources.ensures c.condition-condition.ensures c.in_ok-oids.ensures
     (c.count_of-count.ensures ∙ ap (λ (os : List Oids). min (row_count os) (MAX_ROWS + 1)) c.as_slice.ensures.value)
     c.whole_text.result c.whole_text.ensures c.if-count-gt-MAX_ROWS.true
 
@@ -22,8 +22,8 @@ returns-then-count-gt-MAX_ROWS-clause-databases c = λ database is.
 
 pub returns-clause-shown : goal.returns-clause-shown
 returns-clause-shown c =
-    rows-few (statement_tree_of c.args.checked.now) (holdings_in c.args.view.now) (option_copied c.condition-condition.result) c.sources-sources.result.now c.in_ok-oids.oids.items c.count_of-count.result
-    c.sources-sources.ensures c.condition-condition.ensures c.in_ok-oids.ensures
+    rows-few (statement_tree_of c.args.checked.now) (holdings_in c.args.view.now) (option_copied c.condition-condition.result) c.sources-sources.result.now c.in_ok-oids.oids.items
+    c.count_of-count.result c.sources-sources.ensures c.condition-condition.ensures c.in_ok-oids.ensures
     (c.count_of-count.ensures ∙ ap (λ (os : List Oids). min (row_count os) (MAX_ROWS + 1)) c.as_slice.ensures.value)
     c.if-count-gt-MAX_ROWS.false
 
