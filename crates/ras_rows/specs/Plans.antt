@@ -2,15 +2,14 @@
 use Rattle.std.specs.Prelude.{◌≡◌, ℕ, true, List, [], ◌∷◌, map, option_map, Result}
 use Rattle.ras_cells.specs.Outcomes.{◌>>=◌}
 use Rattle.ras_domain.specs.Boxes.{lies_in}
-use Rattle.ras_rows.specs.declared.cut.Cut.{Cut as CutFound}
-use Rattle.ras_rows.specs.declared.cut.Cut.TheVariants as cuts
 use Rattle.ras_rows.specs.declared.plan.Plan.{Plan as PlanMade}
 use Rattle.ras_rows.specs.declared.writing.Writing.{Writing as WritingMade}
 use Rattle.ras_shape.specs.declared.form.ShapeError.{ShapeError}
+use Rattle.ras_shape.specs.Cuts.{cut_found}
 use Rattle.ras_shape.specs.Gives.{GivesAs, shape_of_form}
 use Rattle.ras_syntax.specs.declared.span.Span.{Span}
 use Rattle.ras_syntax.specs.declared.types.SetType.{SetType}
-use Rattle.spec_expressions.specs.Shape.{Box, Cut, fixed, moving, between, broken}
+use Rattle.spec_expressions.specs.Shape.{Box}
 use Rattle.ras_syntax.specs.declared.typed.CheckedSource.{CheckedSource}
 use Rattle.ras_rows.specs.RowsKept.{row_named}
 use Rattle.spec_statements.specs.Limits.{limited_plans}
@@ -20,12 +19,6 @@ use Rattle.spec_statements.specs.Rows.{Row}
 use Rattle.spec_statements.specs.Statement.{StatementTree}
 use Rattle.spec_views.specs.Holdings.{Holdings}
 
-abbrev pub cut_seen : CutFound → Cut
-cut_seen (cuts.Fixed z) = fixed z
-cut_seen cuts.Moving = moving
-cut_seen (cuts.Between lo hi) = between lo hi
-cut_seen cuts.Broken = broken
-
 abbrev pub writing_seen : WritingMade → Writing
 writing_seen writing = record { region = writing.region; grown = writing.grown; body = writing.body.items }
 
@@ -34,7 +27,7 @@ plan_seen plan = record {
   number = plan.number;
   row = plan.row.items;
   shape = shape_of_form plan.shape;
-  cuts = map cut_seen plan.cuts.items;
+  cuts = map cut_found plan.cuts.items;
   writing = option_map writing_seen plan.writing;
 }
 

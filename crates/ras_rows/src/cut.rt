@@ -1,27 +1,15 @@
-//! What an axis of an update's target does to an axis of the array.
+//! What the cuts of an update's target name.
 ghost use Rattle.std.specs.Prelude.{◌≡◌};
-ghost use Rattle.ras_rows.specs.Plans.{cut_seen};
+ghost use Rattle.ras_shape.specs.Cuts.{cut_found};
 ghost use Rattle.spec_expressions.specs.Shape.{is_empty_cut as is_empty_cut_of};
 ghost use Rattle.spec_statements.specs.Plans.{is_broken_target as is_broken_cut, target_interval};
 
 use ras_domain::Interval;
-
-/// What an axis of an update's target does to an axis of the array.
-#[derive(Clone, Copy, Debug, PartialEq, Eq)]
-pub enum Cut {
-    /// A position with this value.
-    Fixed(i64),
-    /// A position that each cell has for itself.
-    Moving,
-    /// A trim with these bounds.
-    Between(i64, i64),
-    /// A position or a bound that has no value, or a bound that leaves 32 bits.
-    Broken,
-}
+use ras_shape::Cut;
 
 /// Whether the cut names no coordinates of 32 bits.
 pub(crate) fn is_broken_target(cut: Cut) -> bool
-    ensures { result ≡ is_broken_cut (cut_seen cut) }
+    ensures { result ≡ is_broken_cut (cut_found cut) }
 {
     match cut {
         Cut::Fixed(z) => i32::try_from(z).is_err(),
@@ -32,7 +20,7 @@ pub(crate) fn is_broken_target(cut: Cut) -> bool
 
 /// Whether the cut is a trim whose lower bound exceeds the upper one.
 pub(crate) fn is_empty_cut(cut: Cut) -> bool
-    ensures { result ≡ is_empty_cut_of (cut_seen cut) }
+    ensures { result ≡ is_empty_cut_of (cut_found cut) }
 {
     match cut {
         Cut::Between(lo, hi) => hi < lo,
@@ -42,7 +30,7 @@ pub(crate) fn is_empty_cut(cut: Cut) -> bool
 
 /// The coordinates that the cut names.
 pub(crate) fn interval_of(cut: Cut) -> Interval
-    ensures { result ≡ target_interval (cut_seen cut) }
+    ensures { result ≡ target_interval (cut_found cut) }
 {
     match cut {
         Cut::Fixed(z) => Interval { lo: z, hi: z },

@@ -10,12 +10,10 @@ mod plan;
 mod plans;
 mod rows;
 mod shaped;
-mod shapes;
 mod stop;
 mod writing;
 
 pub use array::ShownArray;
-pub use cut::Cut;
 pub use plan::{Plan, plan_row};
 pub use plans::plan_rows;
 pub use rows::{Rows, row_of};

@@ -9,14 +9,12 @@ ghost use Rattle.spec_statements.specs.Plans.{insert_plan, misfit_in, read_plan,
 ghost use Rattle.spec_statements.specs.Statement.{request_of, target_axes};
 
 use crate::array::ShownArray;
-use crate::cut::Cut;
-use crate::shapes::{cuts, shape};
 use crate::stop::{Stop, stop_in_row};
 use crate::writing::{
     Writing, fault_at, inserted, is_same, kept, region_of, target_region, updated,
 };
 use ras_domain::Region;
-use ras_shape::{Form, ShapeError};
+use ras_shape::{Cut, Form, ShapeError, index_cuts, shape};
 use ras_syntax::{Checked, CheckedForm, SetType, ShapeFault, Span, TypedAxis, TypedExpr};
 use std::alloc::{AllocError, Global};
 
@@ -182,7 +180,7 @@ fn update_part<'a>(
 {
     let domains = domains_of(alloc, row.as_slice())?;
     let domain = first_domain(domains.as_slice())?;
-    let cuts = cuts(alloc, axes, domain.axes(), domains.as_slice())?;
+    let cuts = index_cuts(alloc, axes, domain.axes(), domains.as_slice())?;
     let region = target_region(alloc, target, of, cuts.as_slice())?;
     let shape = shape(alloc, body, domains.as_slice())?;
     let kept = kept(alloc, cuts.as_slice())?;

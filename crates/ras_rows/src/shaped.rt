@@ -8,8 +8,8 @@ ghost use Rattle.spec_statements.specs.Statement.{request_of};
 use crate::parts::condition;
 use crate::plan::domains_of;
 use crate::rows::Rows;
-use crate::shapes::shape;
 use crate::stop::{Stop, stop_in_row};
+use ras_shape::shape;
 use ras_syntax::{Checked, TypedExpr};
 use std::alloc::Global;
 

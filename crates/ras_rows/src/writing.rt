@@ -4,7 +4,8 @@ ghost use Rattle.std.specs.List.{list_all, list_any, zip};
 ghost use Rattle.ras_cells.specs.Stored.{atoms_of};
 ghost use Rattle.ras_domain.specs.Boxes.{is_same_box, is_within, lies_in};
 ghost use Rattle.ras_domain.specs.Region.{points_of};
-ghost use Rattle.ras_rows.specs.Plans.{AllowsGrowth, cut_seen, whole_writing, writing_seen};
+ghost use Rattle.ras_rows.specs.Plans.{AllowsGrowth, whole_writing, writing_seen};
+ghost use Rattle.ras_shape.specs.Cuts.{cut_found};
 ghost use Rattle.ras_shape.specs.Gives.{GivesAs, GivesBox, shape_of_form};
 ghost use Rattle.ras_shape.specs.declared.form.ShapeError.TheVariants.{Fault};
 ghost use Rattle.spec_expressions.specs.Shape.{box_of, is_empty_cut as is_empty_cut_of, kept_axes, of_size};
@@ -12,11 +13,11 @@ ghost use Rattle.spec_statements.specs.Plans.{allowed_writing, is_broken_target 
 ghost use Rattle.spec_statements.specs.Plans.{target_box, target_interval, writing_over};
 
 use crate::array::is_grid;
-use crate::cut::{Cut, interval_of, is_broken_target, is_empty_cut};
+use crate::cut::{interval_of, is_broken_target, is_empty_cut};
 use ras_cells::MAX_COMPONENTS;
 use ras_domain::{DomainFault, Interval, MAX_POINTS, Region};
 use ras_grid::count_meeting;
-use ras_shape::{Form, ShapeError};
+use ras_shape::{Cut, Form, ShapeError};
 use ras_syntax::{MAX_STORED_NUMBERS, MAX_TILES, SetType, ShapeFault, Span};
 use std::alloc::{AllocError, Global};
 
@@ -121,7 +122,7 @@ pub(crate) fn target_region(
     of: &SetType,
     cuts: &[Cut],
 ) -> Result<Region, ShapeError>
-    ensures { GivesBox (target_box span (length (atoms_of of.now.cell)) (map cut_seen cuts.now)) result }
+    ensures { GivesBox (target_box span (length (atoms_of of.now.cell)) (map cut_found cuts.now)) result }
 {
     if has_broken(cuts) {
         return Err(fault_at(span, ShapeFault::BoundOut));
@@ -135,21 +136,21 @@ pub(crate) fn target_region(
 
 /// Whether a cut names no coordinates of 32 bits.
 fn has_broken(cuts: &[Cut]) -> bool
-    ensures { result ≡ list_any (λ cut. is_broken_cut (cut_seen cut)) cuts.now }
+    ensures { result ≡ list_any (λ cut. is_broken_cut (cut_found cut)) cuts.now }
 {
     cuts.iter().any(|cut| is_broken_target(*cut))
 }
 
 /// Whether a cut is an empty trim.
 fn has_empty(cuts: &[Cut]) -> bool
-    ensures { result ≡ list_any (λ cut. is_empty_cut_of (cut_seen cut)) cuts.now }
+    ensures { result ≡ list_any (λ cut. is_empty_cut_of (cut_found cut)) cuts.now }
 {
     cuts.iter().any(|cut| is_empty_cut(*cut))
 }
 
 /// The coordinates that each cut names.
 fn intervals(alloc: Global, cuts: &[Cut]) -> Result<Vec<Interval>, AllocError>
-    ensures { IfOk result (λ axes. axes.items ≡ map (λ cut. target_interval (cut_seen cut)) cuts.now) }
+    ensures { IfOk result (λ axes. axes.items ≡ map (λ cut. target_interval (cut_found cut)) cuts.now) }
 {
     cuts.iter().map(|cut| interval_of(*cut)).collect(alloc)
 }
@@ -193,7 +194,7 @@ fn width_of(of: &SetType) -> u64
 
 /// The axes that trims keep.
 pub(crate) fn kept(alloc: Global, cuts: &[Cut]) -> Result<Vec<Interval>, AllocError>
-    ensures { IfOk result (λ axes. axes.items ≡ kept_axes (map cut_seen cuts.now)) }
+    ensures { IfOk result (λ axes. axes.items ≡ kept_axes (map cut_found cuts.now)) }
 {
     let mut axes = Vec::new(alloc);
     for cut in cuts {
