@@ -1,0 +1,4 @@
+pub mod ChangesFor
+pub mod Replacements
+pub mod Sound
+pub mod Writes
