@@ -14,6 +14,7 @@ use Rattle.ras_domain.specs.declared.lock.Mode.TheVariants.{Exclusive, Shared}
 use Rattle.ras_domain.specs.Region.{IsOrdered}
 use Rattle.ras_domain.proofs.BoxTests.{LiesIn-lies_in, length-LiesIn}
 use Rattle.ras_store.specs.declared.write.Write.{Write}
+use Rattle.ras_syntax.specs.declared.faults.ShapeFault.TheVariants.{TooManyLocks}
 use Rattle.ras_syntax.specs.declared.statement.Statement.{Statement}
 use Rattle.ras_syntax.specs.declared.types.SetType.{SetType}
 use Rattle.ras_syntax.specs.declared.typed.Checked.{Checked}
@@ -35,14 +36,14 @@ use Rattle.spec_expressions.specs.Database.{Collection as CollectionOf, Database
 use Rattle.spec_expressions.specs.SetTypes.{AreTypes, IsSetType}
 use Rattle.spec_expressions.specs.Shape.{Box}
 use Rattle.spec_expressions.specs.Tree.{Tree}
-use Rattle.spec_statements.specs.Effects.{Stores, grown_of, insert_outcome, insert_store, next_of, no_array, outcome_of, outcome_of_plans, plan_stores, reply_in, stores_of_plans, update_store, with_arrays, with_changed, with_inserted, without_arrays, written_array}
+use Rattle.spec_statements.specs.Effects.{Stores, grown_of, insert_outcome, insert_store, next_of, no_array, outcome_of, outcome_of_plans, plan_stores, reply_in, stores_of_plans, update_store, with_arrays, with_changed, with_inserted, with_updated, without_arrays, written_array}
 use Rattle.spec_statements.specs.Limits.{limited_locks}
 use Rattle.spec_statements.specs.Locks.{Lock, lock_list}
 use Rattle.spec_statements.specs.Machine.{checked_over, effect_after_check, effect_of, first_list, is_too_long, needs_of, reply_after_check, reply_of, wanted_at_first}
 use Rattle.spec_statements.specs.Phases.{list_or_none, needs_4, phase_4_list, until_bodies, until_plans}
 use Rattle.spec_statements.specs.Plans.{Plan, insert_plan}
 use Rattle.spec_statements.specs.ReachLaw.{Names}
-use Rattle.spec_statements.specs.Reply.{Reply, done}
+use Rattle.spec_statements.specs.Reply.{Reply, done, misfit}
 use Rattle.spec_statements.specs.Limits.{is_select}
 use Rattle.spec_statements.specs.Statement.{Request, StatementTree, statement_tree_of, select, insert, delete, update, create, drop}
 use Rattle.spec_views.specs.Holdings.{Holding, Holdings, IsSeenBy, collection_held, lists_before}
@@ -167,3 +168,59 @@ effect-rewrites types statement database checked holdings writes are short is se
     subst (RewritesTo types (replaced_by_all (changes_for tree.request holdings writes)) database) (sym effect)
     (forms types statement database holdings are short seen tree.length tree.request plans writes (statement_checked types database statement checked is) are_plans rest sound
     (fourth-listed types statement database checked short is plans are_plans))
+
+-- ---- the reply
+
+stores-length : (store : Cell → Result (Option (List ℤ)) CellFault) (body : Tree) (plans : List Plan) (made : List (Plan × Stores)) → stores_of_plans store body plans ≡ Ok made
+    → length made ≡ length plans
+stores-length store body [] made is = ok_keeps (λ m. length m ≡ 0) [] made is refl
+stores-length store body (plan ∷ plans) made is =
+    let (stores, is_stores, then_1) = bind_ok (plan_stores store body plan) _ made is in
+    let (others, found, last) = bind_ok (stores_of_plans store body plans) _ made then_1 in
+    ok_keeps (λ m. length m ≡ length (plan ∷ plans)) ((plan, stores) ∷ others) made last (ap ℕ.suc (stores-length store body plans others found))
+
+-- as many of one list as of another
+same-length : {A B : Type 0} (f : A → RowWriting) (g : B → RowWriting) (xs : List A) (ys : List B) → map f xs ≡ map g ys → length xs ≡ length ys
+same-length f g xs ys same = sym (length-map xs f) ∙ ap length same ∙ length-map ys g
+
+module _ (types : List SetType) (statement : Statement) (database : Database) (holdings : Holdings) (are : AreTypes types) (short : is_too_long (first_list statement) ≡ false)
+    (seen : IsSeenBy types holdings statement 5 database) where
+  insert-replies : (into : List ℕ) (of : SetType) (body : Tree) (made : List (Plan × Stores)) (writes : List Write) → IsCheckedOver types database (wanted_at_first statement.form) (insert into of body)
+      → map row_writing made ≡ writings_of (insert into of body) writes → (insert_outcome into of database made).0 ≡ done (number_done (insert into of body) holdings writes)
+  insert-replies into of body [] [] checked same = refl
+  insert-replies into of body [] (write ∷ writes) checked same = absurd (cc)
+  insert-replies into of body (one ∷ made) [] checked same = absurd (cc)
+  insert-replies into of body (one ∷ made) (write ∷ writes) checked same =
+      let (c, is) = collection_in types database into of seen.valid checked.1 in
+      ap (λ o. done (next_of o)) is.found ∙ sym (ap (λ held. done (next_in held)) (collection-seen types statement database holdings are short seen into Exclusive of c is checked.0))
+
+  replies : (request : Request) (plans : List Plan) (writes : List Write) → is_select request ≡ false → IsCheckedOver types database (wanted_at_first statement.form) request
+      → writings_of_plans request plans ≡ Ok (writings_of request writes) → reply_in (outcome_of_plans request plans database) ≡ done (number_done request holdings writes)
+  replies (select body sources condition) plans writes selects checked is = absurd (cc)
+  replies (insert into of body) plans writes selects checked is =
+      let (made, are_made, last) = bind_ok (stores_of_plans (insert_store of) body plans) (λ made. Ok (map row_writing made)) (writings_of (insert into of body) writes) is in
+      ap (λ r. reply_in (r >>= λ stores. Ok (insert_outcome into of database stores))) are_made
+      ∙ insert-replies into of body made writes checked (ok_same (map row_writing made) (writings_of (insert into of body) writes) last)
+  replies (delete source condition) plans writes selects checked is =
+      ap done (same-length (λ plan. row_writing (plan, [])) (λ (write : Write). (let w : RowWriting = record { identifiers = write.oid ∷ []; grown = []; stores = [] } in w)) plans writes
+      (ok_same (map (λ plan. row_writing (plan, [])) plans) (writings_of (delete source condition) writes) is))
+  replies (update source axes target body condition) plans writes selects checked is =
+      let (made, are_made, last) = bind_ok (stores_of_plans (update_store source.of) body plans) (λ made. Ok (map row_writing made)) (writings_of (update source axes target body condition) writes) is in
+      ap (λ r. reply_in (r >>= λ stores. Ok (done (length plans), with_changed source.collection (λ collection. with_arrays collection (with_updated source.of collection.arrays stores)) database))) are_made
+      ∙ ap done (sym (stores-length (update_store source.of) body plans made are_made)
+      ∙ same-length row_writing (writing_of source.of) made writes (ok_same (map row_writing made) (writings_of (update source axes target body condition) writes) last))
+  replies (create name of) plans writes selects checked is = refl
+  replies (drop name) plans writes selects checked is = refl
+
+-- a statement that writes is answered by the number of its writes
+pub effect-replies : (types : List SetType) (statement : Statement) (database : Database) (checked : Checked) (holdings : Holdings) (writes : List Write) → AreTypes types
+    → is_too_long (first_list statement) ≡ false → checked_over types statement database ≡ Ok checked → IsSeenBy types holdings statement 5 database
+    → is_select (statement_tree_of checked).request ≡ false
+    → written_by (statement_tree_of checked) database ≡ Ok (writings_of (statement_tree_of checked).request writes)
+    → reply_of types statement database ≡ done (number_done (statement_tree_of checked).request holdings writes)
+effect-replies types statement database checked holdings writes are short is seen selects written =
+    let tree : StatementTree = statement_tree_of checked in
+    let (plans, are_plans, rest) = bind_ok (until_bodies tree database) (λ plans. writings_of_plans tree.request plans) (writings_of tree.request writes) written in
+    (λ i. if short i then misfit 0 (record { from = 0; to = statement.length }) TooManyLocks else reply_after_check (is i) database)
+    ∙ ap (λ r. reply_in (r >>= λ plans. outcome_of_plans tree.request plans database)) are_plans
+    ∙ replies types statement database holdings are short seen tree.request plans writes selects (statement_checked types database statement checked is) rest

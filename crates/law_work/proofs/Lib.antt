@@ -5,3 +5,4 @@ pub mod Points
 pub mod Replaced
 pub mod Seen
 pub mod Updates
+pub mod WrittenNames

@@ -2,3 +2,4 @@ pub mod ChangesFor
 pub mod Replacements
 pub mod Sound
 pub mod Writes
+pub mod Written
