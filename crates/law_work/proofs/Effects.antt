@@ -1,5 +1,5 @@
 -- What a statement's writes replace is its effect, and their number its reply.
-use Rattle.std.proofs.Common.{◌≡◌, ℕ, ℤ, true, false, if◌then◌else◌, arith, List, [], ◌∷◌, length, map, flat_map, Contains, Option, Some, None, option_map, Result, Ok, Err, refl, sym, ap, ◌∙◌, subst}
+use Rattle.std.proofs.Common.{◌≡◌, ℕ, ℤ, false, if◌then◌else◌, arith, List, [], ◌∷◌, length, map, flat_map, Contains, Option, Some, Result, Ok, refl, sym, ap, ◌∙◌, subst}
 use Rattle.std.specs.List.{AllByRecursion}
 use Rattle.std.specs.Map.{keys_of}
 use Rattle.std.proofs.lemmas.List.{length-map}
@@ -7,10 +7,9 @@ use Rattle.std.proofs.lemmas.List.Elements.{Contains-append_right}
 use Rattle.ras_cells.specs.declared.cell.Cell.{Cell}
 use Rattle.ras_cells.specs.declared.cell.CellFault.{CellFault}
 use Rattle.ras_cells.specs.Outcomes.{◌>>=◌}
-use Rattle.ras_domain.specs.declared.lock.LockName.{LockName}
 use Rattle.ras_domain.specs.declared.lock.LockName.TheVariants.{Collection}
 use Rattle.ras_domain.specs.declared.lock.Mode.{Mode}
-use Rattle.ras_domain.specs.declared.lock.Mode.TheVariants.{Exclusive, Shared}
+use Rattle.ras_domain.specs.declared.lock.Mode.TheVariants.{Exclusive}
 use Rattle.ras_domain.specs.Region.{IsOrdered}
 use Rattle.ras_domain.proofs.BoxTests.{LiesIn-lies_in, length-LiesIn}
 use Rattle.ras_store.specs.declared.write.Write.{Write}
@@ -32,24 +31,23 @@ use Rattle.law_lists.proofs.Each.{each_contained}
 use Rattle.law_shapes.proofs.Outcomes.{bind_ok}
 use Rattle.law_views.proofs.Applied.{effect_as_written}
 use Rattle.law_views.proofs.Seen.{earlier_listed}
-use Rattle.spec_expressions.specs.Database.{Collection as CollectionOf, Database, collection_of}
+use Rattle.spec_expressions.specs.Database.{Collection as CollectionOf, Database}
 use Rattle.spec_expressions.specs.SetTypes.{AreTypes, IsSetType}
-use Rattle.spec_expressions.specs.Shape.{Box}
 use Rattle.spec_expressions.specs.Tree.{Tree}
-use Rattle.spec_statements.specs.Effects.{Stores, grown_of, insert_outcome, insert_store, next_of, no_array, outcome_of, outcome_of_plans, plan_stores, reply_in, stores_of_plans, update_store, with_arrays, with_changed, with_inserted, with_updated, without_arrays, written_array}
+use Rattle.spec_statements.specs.Effects.{Stores, grown_of, insert_outcome, insert_store, next_of, no_array, outcome_of_plans, plan_stores, reply_in, stores_of_plans, update_store, with_arrays, with_changed, with_inserted, with_updated, without_arrays, written_array}
 use Rattle.spec_statements.specs.Limits.{limited_locks}
-use Rattle.spec_statements.specs.Locks.{Lock, lock_list}
+use Rattle.spec_statements.specs.Locks.{Lock}
 use Rattle.spec_statements.specs.Machine.{checked_over, effect_after_check, effect_of, first_list, is_too_long, needs_of, reply_after_check, reply_of, wanted_at_first}
-use Rattle.spec_statements.specs.Phases.{list_or_none, needs_4, phase_4_list, until_bodies, until_plans}
+use Rattle.spec_statements.specs.Phases.{list_or_none, needs_4, phase_4_list, until_bodies}
 use Rattle.spec_statements.specs.Plans.{Plan, insert_plan}
 use Rattle.spec_statements.specs.ReachLaw.{Names}
-use Rattle.spec_statements.specs.Reply.{Reply, done, misfit}
+use Rattle.spec_statements.specs.Reply.{done, misfit}
 use Rattle.spec_statements.specs.Limits.{is_select}
 use Rattle.spec_statements.specs.Statement.{Request, StatementTree, statement_tree_of, select, insert, delete, update, create, drop}
-use Rattle.spec_views.specs.Holdings.{Holding, Holdings, IsSeenBy, collection_held, lists_before}
+use Rattle.spec_views.specs.Holdings.{Holdings, IsSeenBy, collection_held, lists_before}
 use Rattle.spec_views.specs.Work.{RewritesTo}
 use Rattle.spec_views.specs.Writings.{RowWriting, applied, applied_in, row_writing, writings_of_plans, written_by}
-use Rattle.law_work.specs.ChangesFor.{array_inserted, changes_for, collection_without, first_inserted, next_in, number_done, number_inserted}
+use Rattle.law_work.specs.ChangesFor.{array_inserted, changes_for, collection_without, next_in, number_done}
 use Rattle.law_work.specs.Replacements.{replaced_by_all}
 use Rattle.law_work.specs.Sound.{AreSound, IsSoundWrite}
 use Rattle.law_work.specs.Writes.{stores_of_write, writings_of}

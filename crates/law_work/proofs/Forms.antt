@@ -4,7 +4,6 @@ use Rattle.std.specs.BTreeMap.{insert_entry, is_at}
 use Rattle.std.specs.Cmp.{eq_by_cmp_equiv}
 use Rattle.std.specs.Cmp.Lexicographic.{slice_cmp}
 use Rattle.std.specs.List.{AllByRecursion, list_any}
-use Rattle.std.specs.List.Sorted.{IsStrictlySortedBy}
 use Rattle.std.specs.Map.{keys_of, lookup}
 use Rattle.std.specs.Option.{is_some}
 use Rattle.std.specs.Ordering.{eq_by_cmp, is_eq, nat_cmp}
@@ -35,8 +34,8 @@ use Rattle.std.proofs.lemmas.List.Elements.{recursion_from_All}
 use Rattle.std.proofs.lemmas.Map.{lookup-none}
 use Rattle.law_effects.proofs.Untouched.{differ, look_at-same, with_collection-other, without_collection-other}
 use Rattle.law_locks.proofs.EffectsShown.{collection_found, look_at-in, look_in}
-use Rattle.spec_expressions.specs.Database.{Array, Collection as CollectionOf, Database, array_of, collection_of}
-use Rattle.spec_statements.specs.Agree.{Seen, collection_seen, domain_seen, extents_in, lies_at, stored_in_tile, tile_seen}
+use Rattle.spec_expressions.specs.Database.{Array, Collection as CollectionOf, Database, collection_of}
+use Rattle.spec_statements.specs.Agree.{Seen, domain_seen, extents_in, lies_at, stored_in_tile, tile_seen}
 use Rattle.spec_statements.specs.Effects.{Stores, empty_collection, no_array, number_after, with_arrays, with_changed, with_changed_if_any, with_collection, with_inserted, without_arrays, without_collection, written_array}
 use Rattle.spec_statements.specs.Locks.{collection_in}
 use Rattle.spec_statements.specs.Validity.{IsValidFor}

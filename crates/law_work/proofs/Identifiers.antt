@@ -1,10 +1,10 @@
 -- The identifiers of a collection's arrays, and the array at one of them.
-use Rattle.std.proofs.Common.{◌≡◌, ℕ, ◌<◌, Bool, true, false, cond, not, ◌||◌, eqb, eq-eqb, arith, List, [], ◌∷◌, ◌++◌, map, filter, Option, Some, None, Ordering, Less, Equal, Greater, refl, sym, ap, ◌∙◌, subst, ⊎_elim, inl, inr}
+use Rattle.std.proofs.Common.{◌≡◌, ℕ, ◌<◌, Bool, true, false, cond, not, ◌||◌, eqb, eq-eqb, arith, List, [], ◌∷◌, ◌++◌, filter, Some, None, Ordering, Less, Equal, Greater, refl, sym, ap, ◌∙◌, subst, ⊎_elim}
 use Rattle.std.specs.Cmp.{eq_by_cmp_equiv}
 use Rattle.std.specs.BTreeMap.{insert_entry}
 use Rattle.std.specs.List.{AllByRecursion, list_any}
 use Rattle.std.specs.List.Sorted.{IsStrictlySortedBy}
-use Rattle.std.specs.Map.{keys_of, lookup, remove_entry}
+use Rattle.std.specs.Map.{keys_of, lookup}
 use Rattle.std.specs.Option.{is_some}
 use Rattle.std.specs.Ordering.{MatchOrdering, eq_by_cmp, is_eq, match_ordering, nat_cmp}
 use Rattle.std.proofs.lemmas.Bool.{cases_Bool, eqb-true, false_from_ne_true}
@@ -14,7 +14,7 @@ use Rattle.std.proofs.lemmas.Map.Keys.{IsDistinct-from_sorted}
 use Rattle.std.proofs.lemmas.Map.Lookups.{exact_unsigned}
 use Rattle.std.proofs.lemmas.Map.Views.{tells_apart}
 use Rattle.law_lists.proofs.Each.{each_weaker}
-use Rattle.law_lists.proofs.Maps.{lookup-insert_entry, lookup-insert_entry_other, sorted-remove_entry}
+use Rattle.law_lists.proofs.Maps.{sorted-remove_entry}
 use Rattle.spec_expressions.specs.Database.{Array}
 use Rattle.spec_statements.specs.Effects.{without_array, without_arrays}
 use Rattle.law_work.specs.ChangesFor.{identifiers_without}

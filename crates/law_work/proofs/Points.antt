@@ -1,15 +1,15 @@
 -- The points of a tile, and what is stored there after a write.
-use Rattle.std.proofs.Common.{◌≡◌, ◌==◌, ◌<◌, ◌≤◌, ℕ, ℤ, Bool, true, false, cond, ◌&&◌, eq-eqb, List, [], ◌∷◌, length, map, filter, All, Contains, Option, Some, None, refl, sym, ap, ◌∙◌, subst, arith, Ordering, Less}
+use Rattle.std.proofs.Common.{◌≡◌, ◌==◌, ℕ, ℤ, Bool, true, false, cond, ◌&&◌, eq-eqb, List, [], ◌∷◌, length, map, filter, Contains, Option, Some, None, refl, sym, ap, ◌∙◌, subst, Ordering, Less}
 use Rattle.std.specs.Cmp.{IsTotalOrder}
 use Rattle.std.specs.Cmp.Lexicographic.{slice_cmp}
 use Rattle.std.specs.List.{AllByRecursion}
 use Rattle.std.specs.List.Sorted.{IsStrictlySortedBy}
-use Rattle.std.specs.Map.{keys_of, lookup}
+use Rattle.std.specs.Map.{lookup}
 use Rattle.std.specs.Ordering.{int_cmp, is_eq}
-use Rattle.std.proofs.lemmas.Bool.{and_parts, eqb-true}
+use Rattle.std.proofs.lemmas.Bool.{and_parts}
 use Rattle.std.proofs.lemmas.Cmp.{int_cmp_total, lists_total}
 use Rattle.ras_cells.specs.Stored.{default_of}
-use Rattle.ras_domain.specs.Region.{IsIn, IsOrdered, is_in, points_of}
+use Rattle.ras_domain.specs.Region.{is_in, points_of}
 use Rattle.ras_domain.proofs.BoxTests.{IsIn-is_in}
 use Rattle.ras_domain.proofs.Points.{Contains-IsIn}
 use Rattle.ras_domain.proofs.RowOrder.{points_of-ascends}
@@ -18,7 +18,7 @@ use Rattle.ras_grid.proofs.Tiles.{IsIn-meet_of, length-grid_box}
 use Rattle.ras_syntax.specs.declared.types.SetType.{SetType}
 use Rattle.law_effects.proofs.Shown.{filter-rewritten}
 use Rattle.law_effects.proofs.Written.{keys-paired}
-use Rattle.law_lists.proofs.Each.{each_any, each_contained, each_filter, each_itself, each_map, each_weaker}
+use Rattle.law_lists.proofs.Each.{each_contained, each_filter, each_itself, each_map, each_weaker}
 use Rattle.law_lists.proofs.Elements.{Contains-map}
 use Rattle.law_locks.proofs.Reading.{stored_kept}
 use Rattle.law_views.proofs.Ascending.{Contains-filter, Contains-from_filter, same_ascending}
@@ -26,7 +26,7 @@ use Rattle.spec_expressions.specs.Database.{Array, stored_at}
 use Rattle.spec_expressions.specs.Shape.{Box}
 use Rattle.spec_statements.specs.Agree.{lies_at, tile_seen}
 use Rattle.spec_statements.specs.Effects.{Stores, number_after, or_else, store_for, written_array}
-use Rattle.spec_views.specs.Holdings.{Holding, holding_of, tile_held}
+use Rattle.spec_views.specs.Holdings.{Holding, holding_of}
 use Rattle.law_work.specs.ChangesFor.{array_held, tile_after, tile_holding}
 
 -- ---- ascending lists

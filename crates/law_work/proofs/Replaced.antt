@@ -1,5 +1,5 @@
 -- Changes and what they replace.
-use Rattle.std.proofs.Common.{◌≡◌, ℕ, ℤ, Bool, true, false, cond, ◌&&◌, List, [], ◌∷◌, map, Option, Some, None, refl, sym, ap, ◌∙◌}
+use Rattle.std.proofs.Common.{◌≡◌, ℕ, cond, ◌&&◌, List, [], ◌∷◌, map, Option, Some, None, refl, ap, ◌∙◌}
 use Rattle.std.specs.Arc.{arc_value}
 use Rattle.std.specs.Option.{option_map}
 use Rattle.std.specs.BTreeMap.{is_at}
@@ -11,12 +11,12 @@ use Rattle.ras_index.specs.Index.{row_major}
 use Rattle.ras_store.specs.declared.change.Change.{Change}
 use Rattle.ras_store.specs.declared.change.Change.TheVariants.{Collection as CollectionChange, Domain as DomainChange, Tile as TileChange}
 use Rattle.ras_store.specs.declared.collection.CollectionInfo.{CollectionInfo}
-use Rattle.ras_store.specs.Databases.{holding_kept, rewrites_of}
-use Rattle.ras_store.specs.Kept.{Kept, all_changed_as, changed_as, collection_kept, domain_kept, is_listed, kept_tile, name_changed, replaced_as, tile_kept}
+use Rattle.ras_store.specs.Databases.{holding_kept}
+use Rattle.ras_store.specs.Kept.{Kept, all_changed_as, changed_as, collection_kept, domain_kept, is_listed, name_changed, replaced_as, tile_kept}
 use Rattle.ras_store.specs.Piece.{kept_by}
 use Rattle.spec_statements.specs.Locks.{collection_in}
 use Rattle.spec_views.specs.Holdings.{Holding}
-use Rattle.law_work.specs.Replacements.{Replacement, is_member, replaced_by, replaced_by_all, replaced_under, replacement_of}
+use Rattle.law_work.specs.Replacements.{is_member, replaced_by, replaced_by_all, replaced_under, replacement_of}
 
 fused : {A : Type 0} (f : A → Kept) (o : Option A) → option_map (λ a. holding_kept (f a)) o ≡ option_map holding_kept (option_map f o)
 fused f None = refl

@@ -1,75 +1,59 @@
 -- A statement's writes, over a database that was seen.
-use Rattle.std.proofs.Common.{◌≡◌, ◌==◌, ◌<◌, ◌≤◌, ℕ, ℤ, Bool, true, false, cond, arith, List, [], ◌∷◌, ◌++◌, length, map, filter, flat_map, slice_get, All, Contains, Option, Some, None, option_map, Result, Ok, Err, Ordering, Less, Equal, refl, sym, ap, ◌∙◌, subst, inl, inr}
+use Rattle.std.proofs.Common.{◌≡◌, ◌<◌, ◌≤◌, ℕ, ℤ, Bool, true, false, cond, arith, List, [], ◌∷◌, ◌++◌, length, map, filter, flat_map, Contains, Option, Some, option_map, Result, Ok, Less, Equal, refl, sym, ap, ◌∙◌, subst, inl, inr}
 use Rattle.std.specs.List.{AllByRecursion, zip}
 use Rattle.std.specs.List.Sorted.{IsStrictlySortedBy}
-use Rattle.std.specs.Map.{keys_of, lookup}
+use Rattle.std.specs.Map.{keys_of}
 use Rattle.std.specs.Ordering.{is_eq, nat_cmp}
 use Rattle.std.proofs.lemmas.Bool.{false_from_ne_true}
 use Rattle.std.proofs.lemmas.List.{length-map}
 use Rattle.std.proofs.lemmas.Cmp.{nat_cmp_total, tied_itself}
-use Rattle.std.proofs.lemmas.List.Elements.{All-from_recursion, Contains-append_cases, Contains-append_left, Contains-append_right, recursion_from_All}
-use Rattle.arrayvec.specs.ArrayVec.{ArrayVec}
-use Rattle.ras_cells.specs.declared.cell.Cell.{Cell}
-use Rattle.ras_cells.specs.Outcomes.{◌>>=◌}
+use Rattle.std.proofs.lemmas.List.Elements.{All-from_recursion, Contains-append_cases, Contains-append_left, Contains-append_right}
 use Rattle.ras_domain.specs.declared.lock.LockName.{LockName}
-use Rattle.ras_domain.specs.declared.lock.LockName.TheVariants.{Collection, Domain, Tile}
-use Rattle.ras_domain.specs.declared.lock.Mode.{Mode}
-use Rattle.ras_domain.specs.declared.lock.Mode.TheVariants.{Exclusive, Shared}
+use Rattle.ras_domain.specs.declared.lock.LockName.TheVariants.{Collection, Domain}
+use Rattle.ras_domain.specs.declared.lock.Mode.TheVariants.{Exclusive}
 use Rattle.ras_domain.specs.Boxes.{is_same_box}
-use Rattle.ras_domain.specs.Region.{IsIn, IsOrdered, IsRegion, points_of}
+use Rattle.ras_domain.specs.Region.{IsIn, IsOrdered, points_of}
 use Rattle.ras_domain.proofs.BoxTests.{LiesIn-lies_in, each_point, length-LiesIn}
 use Rattle.ras_domain.proofs.PointSets.{IsIn-lows}
 use Rattle.ras_domain.proofs.Points.{Contains-IsIn}
-use Rattle.ras_grid.specs.Grid.{Meets, grid_box, places_meeting, tile_in, tile_place}
+use Rattle.ras_grid.specs.Grid.{places_meeting, tile_place}
 use Rattle.ras_grid.proofs.Tiles.{IsIn-grid_box, length-tile_place, places_meeting-Meets}
 use Rattle.ras_store.specs.declared.write.Write.{Write}
 use Rattle.ras_syntax.specs.declared.span.Span.{Span}
 use Rattle.ras_syntax.specs.declared.statement.Statement.{Statement}
 use Rattle.ras_syntax.specs.declared.types.SetType.{SetType}
-use Rattle.ras_syntax.specs.declared.typed.Checked.{Checked}
 use Rattle.ras_syntax.specs.declared.typed.CheckedSource.{CheckedSource}
-use Rattle.law_effects.proofs.Checked.{HasStaticAxes, IsCheckedOver, statement_checked}
-use Rattle.law_effects.proofs.LockNames.{asked_is_named, exclusive_is_granted}
-use Rattle.law_effects.proofs.Phases.{first_is, later_is}
-use Rattle.law_effects.proofs.Plans.{IsUpdatePlan, insert_plan-fits}
-use Rattle.law_effects.proofs.Rows.{until_bodies_ok, until_plans-each}
+use Rattle.law_effects.proofs.Checked.{HasStaticAxes}
+use Rattle.law_effects.proofs.LockNames.{exclusive_is_granted}
+use Rattle.law_effects.proofs.Plans.{IsUpdatePlan}
 use Rattle.law_effects.proofs.Shown.{found_entry, met_place}
 use Rattle.law_effects.proofs.Stores.{plan_stores-each, stores_of_plans-each}
 use Rattle.law_effects.proofs.Valid.{HasUpdatePlan, update-planned}
-use Rattle.law_effects.proofs.Validity.{IsCollectionIn, collection-arrays, collection_in, type_fits}
+use Rattle.law_effects.proofs.Validity.{IsCollectionIn, collection-arrays}
 use Rattle.law_effects.proofs.Written.{IsFit}
 use Rattle.law_lists.proofs.Choices.{ok_keeps}
 use Rattle.law_lists.proofs.Each.{each_both, each_contained, each_itself, each_weaker}
 use Rattle.law_lists.proofs.Elements.{Contains-flat_map, Contains-here, Contains-map, Contains-there}
-use Rattle.law_shapes.proofs.Outcomes.{bind_ok}
-use Rattle.law_views.proofs.Applied.{effect_as_written}
-use Rattle.law_views.proofs.Seen.{before_parents, earlier_listed}
-use Rattle.spec_expressions.specs.Database.{Array, Collection as CollectionOf, Database, Member, array_of, collection_of}
-use Rattle.spec_expressions.specs.SetTypes.{AreTypes, IsSetType}
-use Rattle.spec_expressions.specs.Shape.{Box}
+use Rattle.law_views.proofs.Seen.{before_parents}
+use Rattle.spec_expressions.specs.Database.{Array, Collection as CollectionOf, Database, Member, array_of}
+use Rattle.spec_expressions.specs.SetTypes.{IsSetType}
 use Rattle.spec_expressions.specs.Tree.{Axes, Condition, Tree}
-use Rattle.spec_statements.specs.Agree.{collection_seen, domain_seen, extents_in, lies_at, look_at, stored_in_tile, tile_seen, with_array}
-use Rattle.spec_statements.specs.Effects.{Stores, effect_of_checked, grown_in, grown_of, insert_store, row_identifiers, stores_of_plans, update_store}
-use Rattle.spec_statements.specs.Locks.{Lock, lock_list}
-use Rattle.spec_statements.specs.Machine.{checked_over, effect_after_check, effect_of, first_list, is_too_long, needs_of, wanted_at_first}
-use Rattle.spec_statements.specs.Phases.{changed_tiles, extents_of, grown_locks, list_or_none, needs_4, phase_4_list, plan_locks, read_tiles, tile_lock, until_bodies, write_locks}
-use Rattle.spec_statements.specs.Limits.{limited_locks}
-use Rattle.spec_statements.specs.Plans.{Plan, Writing, insert_plan}
-use Rattle.spec_statements.specs.ReachLaw.{HasParents, Names}
-use Rattle.spec_statements.specs.Reply.{Reply}
-use Rattle.spec_statements.specs.Statement.{Request, StatementTree, statement_tree_of, select, insert, delete, update, create, drop}
-use Rattle.spec_statements.specs.Validity.{IsArrayOf, IsValidFor}
-use Rattle.spec_views.specs.Holdings.{Holding, Holdings, IsSeenBy, collection_held, domain_held, holding_at, holding_in, holding_of, lists_before}
-use Rattle.spec_views.specs.Work.{RewritesTo}
-use Rattle.spec_views.specs.Writings.{RowWriting, applied, applied_in, row_writing, writings_of_plans, written_by}
-use Rattle.law_work.specs.ChangesFor.{changes_for, collection_without, domain_in, first_inserted, places_changed, tile_name}
-use Rattle.law_work.specs.Replacements.{replaced_by_all}
-use Rattle.law_work.specs.Sound.{AreSound, AreSoundRows, IsSoundWrite}
-use Rattle.law_work.specs.Writes.{numbers_stored, stores_of_write, writings_of}
-use Rattle.law_work.proofs.Forms.{create-rewrites, delete-rewrites, drop-rewrites, insert-rewrites}
+use Rattle.spec_statements.specs.Agree.{collection_seen, domain_seen, extents_in, lies_at, stored_in_tile, tile_seen, with_array}
+use Rattle.spec_statements.specs.Effects.{Stores, grown_in, row_identifiers, stores_of_plans, update_store}
+use Rattle.spec_statements.specs.Locks.{Lock}
+use Rattle.spec_statements.specs.Phases.{changed_tiles, extents_of, grown_locks, phase_4_list, plan_locks, read_tiles, tile_lock, until_bodies, write_locks}
+use Rattle.spec_statements.specs.Plans.{Plan, Writing}
+use Rattle.spec_statements.specs.ReachLaw.{Names}
+use Rattle.spec_statements.specs.Statement.{Request, StatementTree, update}
+use Rattle.spec_statements.specs.Validity.{IsArrayOf}
+use Rattle.spec_views.specs.Holdings.{Holdings, IsSeenBy, collection_held, domain_held, holding_at, holding_in, holding_of, lists_before}
+use Rattle.spec_views.specs.Writings.{RowWriting, row_writing}
+use Rattle.law_work.specs.ChangesFor.{domain_in, places_changed, tile_name}
+use Rattle.law_work.specs.Sound.{IsSoundWrite}
+use Rattle.law_work.specs.Writes.{numbers_stored, stores_of_write}
 use Rattle.law_work.proofs.Identifiers.{same_numbers}
 use Rattle.law_work.proofs.Points.{tile_of}
-use Rattle.law_work.proofs.Updates.{AreApart, AreOthers, IsRow, update-rewrites, writing_of}
+use Rattle.law_work.proofs.Updates.{AreApart, AreOthers, IsRow, writing_of}
 
 -- ---- lists
 

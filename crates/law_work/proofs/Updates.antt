@@ -1,14 +1,14 @@
 -- What an update replaces, row by row.
-use Rattle.std.proofs.Common.{◌≡◌, ◌==◌, ◌<◌, ◌≤◌, ℕ, ℤ, Bool, true, false, cond, not, ◌&&◌, ◌||◌, arith, List, [], ◌∷◌, ◌++◌, length, map, filter, flat_map, slice_get, All, Contains, Option, Some, None, option_map, Ordering, Less, Equal, refl, sym, ap, ◌∙◌, subst, ⊎_elim, inl, inr}
-use Rattle.std.specs.BTreeMap.{insert_entry, is_at}
+use Rattle.std.proofs.Common.{◌≡◌, ◌==◌, ℕ, ℤ, Bool, true, false, cond, not, ◌&&◌, arith, List, [], ◌∷◌, ◌++◌, length, map, filter, flat_map, slice_get, All, Contains, Option, Some, None, option_map, refl, sym, ap, ◌∙◌, subst, inl, inr}
+use Rattle.std.specs.BTreeMap.{insert_entry}
 use Rattle.std.specs.Cmp.{IsTotalOrder, eq_by_cmp_equiv}
 use Rattle.std.specs.Cmp.Lexicographic.{slice_cmp}
 use Rattle.std.specs.List.{AllByRecursion}
 use Rattle.std.specs.List.Sorted.{IsStrictlySortedBy}
 use Rattle.std.specs.Map.{keys_of, lookup}
 use Rattle.std.specs.Ordering.{int_cmp, is_eq, nat_cmp}
-use Rattle.std.proofs.lemmas.Bool.{and_parts, cases_Bool, eqb-true, false_from_ne_true}
-use Rattle.std.proofs.lemmas.Cmp.{int_cmp_total, lists_total, nat_cmp_total, tied_itself}
+use Rattle.std.proofs.lemmas.Bool.{and_parts, eqb-true, false_from_ne_true}
+use Rattle.std.proofs.lemmas.Cmp.{int_cmp_total, lists_total, nat_cmp_total}
 use Rattle.std.proofs.lemmas.List.Elements.{Contains-append_cases, Contains-append_left, Contains-append_right}
 use Rattle.std.proofs.lemmas.Map.{lookup-none}
 use Rattle.std.proofs.lemmas.Map.Keys.{IsDistinct-from_sorted}
@@ -29,7 +29,7 @@ use Rattle.ras_syntax.specs.declared.types.SetType.{SetType}
 use Rattle.law_effects.proofs.Shown.{found_entry, met_place, same_points}
 use Rattle.law_effects.proofs.Untouched.{with_collection-other}
 use Rattle.law_effects.proofs.Validity.{IsCollectionIn}
-use Rattle.law_lists.proofs.Each.{each_contained, each_itself, each_weaker}
+use Rattle.law_lists.proofs.Each.{each_weaker}
 use Rattle.law_lists.proofs.Elements.{Contains-map}
 use Rattle.law_lists.proofs.Maps.{keys-insert_entry_there, lookup-insert_entry, lookup-insert_entry_other}
 use Rattle.law_locks.proofs.EffectsShown.{collection_found}

@@ -1,9 +1,6 @@
 -- What a statement's writes replace, by what is held of the collection and of the arrays that it writes to.
-use Rattle.std.specs.Prelude.{ℕ, ◌+◌, ℤ, Bool, not, if◌then◌else◌, List, [], ◌∷◌, ◌++◌, map, filter, flat_map, length, Option, Some, None, nat_eq}
+use Rattle.std.specs.Prelude.{ℕ, ◌+◌, ℤ, not, if◌then◌else◌, List, [], ◌∷◌, ◌++◌, map, filter, flat_map, length, Option, Some, None, nat_eq}
 use Rattle.std.specs.List.{list_any}
-use Rattle.arrayvec.specs.ArrayVec.{ArrayVec}
-use Rattle.ras_cells.specs.declared.cell.Cell.{Cell}
-use Rattle.ras_cells.specs.declared.cell.CellFault.{CellFault}
 use Rattle.ras_domain.specs.declared.lock.LockName.{LockName}
 use Rattle.ras_domain.specs.declared.lock.LockName.TheVariants.{Collection, Domain, Tile}
 use Rattle.ras_domain.specs.Boxes.{is_same_box}

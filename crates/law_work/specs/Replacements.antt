@@ -1,5 +1,5 @@
 -- Changes as what is held shows them: each replaces what is held under one name.
-use Rattle.std.specs.Prelude.{ℕ, ℤ, Bool, false, ◌&&◌, if◌then◌else◌, List, [], ◌∷◌, map, Option, Some, None, option_map, nat_eq}
+use Rattle.std.specs.Prelude.{ℕ, Bool, false, ◌&&◌, if◌then◌else◌, List, [], ◌∷◌, Option, Some, None, option_map, nat_eq}
 use Rattle.std.specs.BTreeMap.{is_at}
 use Rattle.std.specs.Cmp.Lexicographic.{slice_cmp}
 use Rattle.std.specs.List.{list_any}
@@ -12,7 +12,7 @@ use Rattle.ras_store.specs.Databases.{holding_kept}
 use Rattle.ras_store.specs.Kept.{name_changed}
 use Rattle.ras_store.specs.Piece.{kept_by}
 use Rattle.spec_statements.specs.Locks.{collection_in}
-use Rattle.spec_views.specs.Holdings.{Holding, collection_held, domain_held, tile_held}
+use Rattle.spec_views.specs.Holdings.{Holding, collection_held}
 use Rattle.spec_views.specs.Work.{Rewrites}
 
 -- a name, and what is held there from now on

@@ -1,5 +1,5 @@
 -- What the writes of a statement stand for.
-use Rattle.std.specs.Prelude.{ℕ, ℤ, List, [], ◌∷◌, map, Option, Some, None, Result, Ok, Err}
+use Rattle.std.specs.Prelude.{ℤ, List, [], ◌∷◌, map, Option, None, Result, Ok, Err}
 use Rattle.std.specs.List.{zip}
 use Rattle.ras_cells.specs.declared.cell.Cell.{Cell}
 use Rattle.ras_cells.specs.declared.cell.CellFault.{CellFault}

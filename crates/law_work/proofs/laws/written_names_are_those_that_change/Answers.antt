@@ -1,4 +1,3 @@
-use Rattle.ras_store.specs.Kept.{Kept}
 use Rattle.law_work.proofs.WrittenNames.{unwritten-stays, written-same}
 use Rattle.law_work.proofs.laws.written_names_are_those_that_change.Goals as goal
 
