@@ -76,12 +76,12 @@ ascending-apart (write ∷ writes) sorted = (others writes sorted.0, ascending-a
     )
 
 -- the points of pairs
-keys-zip : {X : Type 0} (ps : List (List ℤ)) (xs : List X) → length xs ≡ length ps → map (λ (e : List ℤ × X). e.0) (zip ps xs) ≡ ps
+pub keys-zip : {X : Type 0} (ps : List (List ℤ)) (xs : List X) → length xs ≡ length ps → map (λ (e : List ℤ × X). e.0) (zip ps xs) ≡ ps
 keys-zip [] xs long = refl
 keys-zip (p ∷ ps) [] long = absurd (omega (arith, long))
 keys-zip (p ∷ ps) (x ∷ xs) long = ap (λ rest. p ∷ rest) (keys-zip ps xs (omega (arith, long)))
 
-each-zip : {X : Type 0} (P : List ℤ → Type 0) (ps : List (List ℤ)) (xs : List X) → AllByRecursion P ps → AllByRecursion (λ (e : List ℤ × X). P e.0) (zip ps xs)
+pub each-zip : {X : Type 0} (P : List ℤ → Type 0) (ps : List (List ℤ)) (xs : List X) → AllByRecursion P ps → AllByRecursion (λ (e : List ℤ × X). P e.0) (zip ps xs)
 each-zip P [] xs all = tt
 each-zip P (p ∷ ps) [] all = tt
 each-zip P (p ∷ ps) (x ∷ xs) all = (all.0, each-zip P ps xs all.1)

@@ -69,7 +69,7 @@ found_point array entry points has =
     lookup-from_Contains (eq_by_cmp_equiv o) entry.0 entry.1 array.stored
     (IsDistinct-from_sorted (slice_cmp int_cmp) (keys_of array.stored) (subst (IsStrictlySortedBy (slice_cmp int_cmp)) (sym points) (points_of-ascends array.domain))) has
 
-store_for-outside : (p : List ℤ) (region : Box) (stores : Stores) → ¬ IsIn p region → AllByRecursion (λ entry. IsIn entry.0 region) stores → store_for p stores ≡ None
+pub store_for-outside : (p : List ℤ) (region : Box) (stores : Stores) → ¬ IsIn p region → AllByRecursion (λ entry. IsIn entry.0 region) stores → store_for p stores ≡ None
 store_for-outside p region stores outside within =
     ap option_flat (lookup-none (λ q. is_eq (slice_cmp int_cmp p q)) stores
     (each_weaker (λ (entry : List ℤ × Option (List ℤ)). IsIn entry.0 region) (λ entry. is_eq (slice_cmp int_cmp p entry.0) ≡ false)

@@ -1,0 +1,4 @@
+pub mod Copies
+pub mod Filled
+pub mod Rows
+pub mod Stores

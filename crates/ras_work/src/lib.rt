@@ -1,2 +1,8 @@
 //! What a live transaction sees and changes: its view of the database, with its own writes over it.
 #![tactic(auto)]
+
+mod cells;
+mod copies;
+mod rows;
+mod tiles;
+mod written;

@@ -1,0 +1,87 @@
+//! The changes of one array that is written.
+ghost use Rattle.std.specs.Prelude.{◌≡◌, ◌++◌, ◌∷◌, [], IfOk, OnOk, Contains, IsTrue, ◌↔◌, length, map, not, List, ℤ, ℕ};
+ghost use Rattle.ras_domain.specs.Boxes.{is_same_box};
+ghost use Rattle.ras_domain.specs.Region.{IsIn, points_of};
+ghost use Rattle.ras_grid.specs.Grid.{IsGrid, Meets, places_meeting, tile_in};
+ghost use Rattle.ras_store.specs.Databases.{holdings_of};
+ghost use Rattle.ras_store.specs.View.{view_kept};
+ghost use Rattle.spec_statements.specs.Phases.{changed_tiles};
+ghost use Rattle.law_work.specs.ChangesFor.{places_changed, row_replaced, tile_replaced};
+ghost use Rattle.law_work.specs.Replacements.{replacement_of};
+ghost use Rattle.law_work.specs.Sound.{IsSoundWrite};
+ghost use Rattle.ras_work.specs.Rows.{row_tile, row_tiles};
+
+use crate::cells::NullRule;
+use crate::tiles::tile_on;
+use ras_domain::{Name, Point, Region};
+use ras_grid::{Extents, tile_box, tiles_meeting};
+use ras_store::{Change, Changes, View, Write};
+use ras_syntax::SetType;
+use std::alloc::{AllocError, Global};
+use std::sync::Arc;
+
+/// An array that is written: its name, its set type, the write, and the view of what was there.
+pub(crate) struct Row<'a> {
+    pub(crate) name: &'a Name,
+    pub(crate) oid: u64,
+    pub(crate) of: &'a SetType,
+    pub(crate) rule: NullRule,
+    pub(crate) write: &'a Write,
+    pub(crate) view: &'a View,
+}
+
+/// Puts a change at the end of others. The error is want of memory.
+pub(crate) fn add(alloc: Global, changes: &mut Changes, change: Change) -> Result<(), AllocError>
+    ensures { OnOk result (changes.new ≡ changes.old ++ change ∷ []) }
+{
+    match changes.add(alloc, change) {
+        Ok(()) => Ok(()),
+        Err(_) => Err(AllocError),
+    }
+}
+
+/// Puts the tile at a place at the end of the changes. The error is want of memory, or a tile that no
+/// statement leaves.
+fn add_tile(alloc: Global, row: &Row, place: &Point, changes: &mut Changes) -> Result<(), AllocError>
+    requires extents { IsGrid row.now.of.now.extents.items }
+    requires axes { length row.now.write.now.grown ≡ length row.now.of.now.extents.items }
+    ensures { OnOk result (map replacement_of changes.new ≡ map replacement_of changes.old ++ row_tile row.now place.now.items ∷ []) }
+{
+    if place.len() != row.of.extents.len() {
+        return Err(AllocError);
+    }
+    let Some(region) = tile_box(place, &row.of.extents, &row.write.grown) else {
+        return Err(AllocError);
+    };
+    let old = row.view.tile_of(row.name, row.oid, place);
+    let tile = tile_on(alloc, row.of, row.rule, row.write, old, region)?;
+    let tile = Arc::new(alloc, tile)?;
+    let name = row.name.try_clone(alloc)?;
+    let place = copy_of_place(place)?;
+    add(alloc, changes, Change::Tile(name, row.oid, place, Some(tile)))
+}
+
+/// The same place.
+pub(crate) fn copy_of_place(place: &Point) -> Result<Point, AllocError>
+    ensures { IfOk result (λ copy. copy ≡ place.now) }
+{
+    place.clone()
+}
+
+/// Puts the tiles at some places at the end of the changes.
+pub(crate) fn add_tiles(
+    alloc: Global,
+    row: &Row,
+    places: &[Point],
+    changes: &mut Changes,
+) -> Result<(), AllocError>
+    requires extents { IsGrid row.now.of.now.extents.items }
+    requires axes { length row.now.write.now.grown ≡ length row.now.of.now.extents.items }
+    ensures { OnOk result (map replacement_of changes.new
+        ≡ map replacement_of changes.old ++ row_tiles row.now (map (λ place. place.items) places.now)) }
+{
+    for place in places {
+        add_tile(alloc, row, place, changes)?;
+    }
+    Ok(())
+}
