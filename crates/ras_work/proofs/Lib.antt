@@ -1,3 +1,5 @@
+pub mod Changed
 pub mod Filling
 pub mod Pairs
 pub mod Stored
+pub mod Unmet

@@ -35,4 +35,5 @@ number_at of rule write before p = number_after of (array_held before) (stores_o
 -- the tile on a box that has these numbers
 pub record IsWrittenTile (of : SetType) (rule : NullRule) (write : Write) (before : Option Holding) (box : Box) (tile : TileValue) : Type 0 where
   pub region : tile.region ≡ box
+  pub is_tile : IsTile tile
   pub cells : tile.cells ≡ map (number_at of rule write before) (points_of box)

@@ -3,8 +3,8 @@ ghost use Rattle.std.specs.Prelude.{◌≡◌, IfOk};
 ghost use Rattle.ras_store.specs.Kept.{kept_tile};
 ghost use Rattle.ras_work.specs.Copies.{AreCopies, put_by};
 
-use crate::rows::{add, copy_of_place};
-use ras_domain::Region;
+use crate::rows::add;
+use ras_domain::{Point, Region};
 use ras_store::{Change, Changes, CollectionInfo};
 use ras_tile::Tile;
 use std::alloc::{AllocError, Global};
@@ -77,4 +77,11 @@ fn copy_of_tile(tile: &Option<Arc<Tile>>) -> Result<Option<Arc<Tile>>, AllocErro
         Some(tile) => Ok(Some(Arc::try_clone(tile)?)),
         None => Ok(None),
     }
+}
+
+/// The same place.
+pub(crate) fn copy_of_place(place: &Point) -> Result<Point, AllocError>
+    ensures { IfOk result (λ copy. copy ≡ place.now) }
+{
+    place.clone()
 }

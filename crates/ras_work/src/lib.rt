@@ -3,6 +3,7 @@
 
 mod cells;
 mod copies;
+mod growth;
 mod rows;
 mod tiles;
 mod written;
