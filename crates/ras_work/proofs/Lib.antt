@@ -1,3 +1,4 @@
+pub mod Applied
 pub mod Changed
 pub mod Filling
 pub mod Pairs

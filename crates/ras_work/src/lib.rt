@@ -3,7 +3,11 @@
 
 mod cells;
 mod copies;
+mod forms;
 mod growth;
 mod rows;
 mod tiles;
+mod work;
 mod written;
+
+pub use work::Work;

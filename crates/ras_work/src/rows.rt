@@ -19,6 +19,7 @@ use std::alloc::{AllocError, Global};
 use std::sync::Arc;
 
 /// An array that is written: its name, its set type, the write, and the view of what was there.
+#[derive(Drop)]
 pub(crate) struct Row<'a> {
     pub(crate) name: &'a Name,
     pub(crate) oid: u64,

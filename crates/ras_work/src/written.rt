@@ -9,7 +9,7 @@ ghost use Rattle.law_work.specs.Written.{is_written as is_written_among, is_writ
 
 use ras_domain::{LockName, Name, Point};
 use ras_store::{Change, Changes, CollectionInfo, WrittenNames};
-use std::alloc::Global;
+use std::alloc::{AllocError, Global};
 
 /// Changes, in order.
 #[derive(Drop)]
@@ -83,5 +83,35 @@ fn lists(info: &Option<CollectionInfo>, oid: u64) -> bool
     match info {
         Some(info) => info.oids.contains(oid),
         None => false,
+    }
+}
+
+impl Written {
+    /// No changes. It allocates nothing.
+    pub(crate) fn new(alloc: Global) -> Written
+        ensures { result.changes ≡ [] }
+    {
+        Written {
+            changes: Changes::new(alloc),
+        }
+    }
+
+    /// Puts more changes at the end. The error is want of memory, and nothing changes then.
+    pub(crate) fn append(&mut self, alloc: Global, more: Changes) -> Result<(), AllocError>
+        ensures ok { OnOk result (self.new.changes ≡ self.old.changes ++ more) }
+        ensures err { OnErr result (self.new.changes ≡ self.old.changes) }
+    {
+        match self.changes.append(alloc, more) {
+            Ok(()) => Ok(()),
+            Err(_) => Err(AllocError),
+        }
+    }
+
+    /// The changes, without copying them.
+    pub(crate) fn into_changes(self) -> Changes
+        ensures { result ≡ self.changes }
+    {
+        let Written { changes } = self;
+        changes
     }
 }
