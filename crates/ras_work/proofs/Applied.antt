@@ -1,11 +1,12 @@
 -- What a work sees after changes, and what these do.
-use Rattle.std.proofs.Common.{◌≡◌, ℕ, Bool, true, false, cond, ◌&&◌, eqb, List, [], ◌∷◌, ◌++◌, map, Option, Some, None, refl, sym, ap, ◌∙◌, subst, ⊎_elim}
+use Rattle.std.proofs.Common.{◌≡◌, ℕ, Bool, true, false, cond, ◌&&◌, eqb, List, [], ◌∷◌, ◌++◌, map, Option, Some, None, Result, Ok, Err, refl, sym, ap, ◌∙◌, subst, ⊎_elim}
 use Rattle.std.specs.Arc.{arc_value}
 use Rattle.std.specs.BTreeMap.{is_at}
 use Rattle.std.specs.Cmp.Lexicographic.{slice_cmp}
 use Rattle.std.specs.List.{list_any}
 use Rattle.std.specs.Option.{option_map}
 use Rattle.std.specs.Ordering.{nat_cmp}
+use Rattle.std.specs.Result.{OnErr, OnOk}
 use Rattle.std.proofs.lemmas.Bool.{cases_Bool}
 use Rattle.ras_domain.specs.declared.lock.LockName.{LockName}
 use Rattle.ras_domain.specs.declared.lock.LockName.TheVariants.{Collection, Domain, Tile}
@@ -30,7 +31,8 @@ use Rattle.law_work.proofs.Replaced.{all-replaced}
 use Rattle.law_work.proofs.WrittenNames.{unwritten-stays, written-same}
 use Rattle.ras_work.specs.Copies.{AreCopies, put_by}
 use Rattle.ras_work.specs.Made.{IsMade}
-use Rattle.ras_work.specs.Works.{IsEffect}
+use Rattle.ras_work.specs.declared.work.Work.{Work}
+use Rattle.ras_work.specs.Works.{IsChangedWork, IsEffect, IsOwnSeen, IsSameWork, work_changes, work_kept}
 
 -- ---- copies
 
@@ -121,3 +123,25 @@ made-effect checked computed holdings more number made types statement database 
       ∙ sym (all-replaced more name (holding_at types name database)),
   effect-replies types statement database checked holdings (writes_in computed) are short is seen made.no_select written ∙ ap done (sym made.counted),
 )
+
+-- ---- a work
+
+pub on_err : {A E : Type 0} (r : Result A E) (P Q : Type 0) → (P → Q) → OnErr r P → OnErr r Q
+on_err (Ok x) P Q gives holds = holds
+on_err (Err e) P Q gives holds = gives holds
+
+-- what was written is seen after a piece was taken, or was not
+pub taken-own : {A E : Type 0} (r : Result A E) (changes : List Change) (old new put : LockName → Option Kept)
+    → OnOk r ((name : LockName) → new name ≡ cond (is_written changes name) (old name) (put name)) → OnErr r ((name : LockName) → new name ≡ old name)
+    → ((name : LockName) → changed_by_all changes name (old name) ≡ old name) → (name : LockName) → changed_by_all changes name (new name) ≡ new name
+taken-own (Ok x) changes old new put held refused own name =
+    ap (changed_by_all changes name) (held name) ∙ own-piece changes name (old name) (put name) (own name) ∙ sym (held name)
+taken-own (Err e) changes old new put held refused own name =
+    ap (changed_by_all changes name) (refused name) ∙ own name ∙ sym (refused name)
+
+pub applied-own : (old new : Work) (more : List Change) → IsChangedWork old new more → IsOwnSeen old → IsOwnSeen new
+applied-own old new more changed own name =
+    (λ i. changed_by_all (changed.changes i) name (changed.kept name i)) ∙ own-more (work_changes old) more name (work_kept old name) (own name) ∙ sym (changed.kept name)
+
+pub same-own : (old new : Work) → IsSameWork old new → IsOwnSeen old → IsOwnSeen new
+same-own old new same own name = (λ i. changed_by_all (same.changes i) name (same.kept name i)) ∙ own name ∙ sym (same.kept name)

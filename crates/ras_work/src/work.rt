@@ -42,7 +42,6 @@ impl Work {
 
     /// Takes a piece of the database into the view. What the work wrote stays. Where memory is wanting, the
     /// work stays as it was, and the piece is handed back.
-    #[tactic(none)]
     pub fn take_piece(&mut self, alloc: Global, piece: Piece) -> Result<(), Piece>
         ensures kept { OnOk result ((name : LockName) → work_kept self.new name
             ≡ (if is_written (work_changes self.old) name then work_kept self.old name else piece_over piece name (work_kept self.old name))) }
@@ -57,7 +56,6 @@ impl Work {
     /// Applies what a statement other than a select comes to, and answers the number of its answer. Where memory
     /// is wanting, or the writes are none that the statement comes to over the view, the work stays as it was, and
     /// they are handed back.
-    #[tactic(none)]
     pub fn apply(
         &mut self,
         alloc: Global,
@@ -77,7 +75,6 @@ impl Work {
 
     /// Makes the changes of a statement, and then applies them to the view and puts them at the end of the others,
     /// or changes nothing.
-    #[tactic(none)]
     fn make_changes(
         &mut self,
         alloc: Global,
