@@ -1,6 +1,5 @@
 -- What a work sees after changes, and what these do.
-use Rattle.std.proofs.Common.{◌≡◌, ℕ, Bool, true, false, cond, ◌&&◌, eqb, List, [], ◌∷◌, ◌++◌, map, Option, Some, None, Result, Ok, Err, refl, sym, ap, ◌∙◌, subst, ⊎_elim}
-use Rattle.std.specs.Arc.{arc_value}
+use Rattle.std.proofs.Common.{◌≡◌, ℕ, Bool, true, false, cond, ◌&&◌, eqb, List, [], ◌∷◌, ◌++◌, map, Option, Some, None, Result, Ok, Err, refl, sym, ap, ◌∙◌, ⊎_elim}
 use Rattle.std.specs.BTreeMap.{is_at}
 use Rattle.std.specs.Cmp.Lexicographic.{slice_cmp}
 use Rattle.std.specs.List.{list_any}
@@ -15,15 +14,14 @@ use Rattle.ras_store.specs.declared.change.Change.{Change}
 use Rattle.ras_store.specs.declared.change.Change.TheVariants.{Collection as CollectionChange, Domain as DomainChange, Tile as TileChange}
 use Rattle.ras_store.specs.declared.collection.CollectionInfo.{CollectionInfo}
 use Rattle.ras_store.specs.declared.write.Computed.{Computed}
-use Rattle.ras_store.specs.Databases.{holding_kept, rewrites_of}
-use Rattle.ras_store.specs.Kept.{Kept, changed_by, changed_by_all, collection_kept, domain_kept, is_listed, name_changed, replaced, tile_kept}
+use Rattle.ras_store.specs.Kept.{Kept, changed_by, changed_by_all, collection_kept, is_listed, name_changed, replaced}
 use Rattle.ras_store.specs.Piece.{kept_by}
 use Rattle.ras_syntax.specs.declared.typed.Checked.{Checked}
 use Rattle.spec_statements.specs.Locks.{collection_in}
 use Rattle.spec_statements.specs.Reply.{done}
 use Rattle.spec_statements.specs.Statement.{statement_tree_of}
 use Rattle.spec_views.specs.Holdings.{Holdings, holding_at}
-use Rattle.law_work.specs.Replacements.{replaced_by_all, replacement_of}
+use Rattle.law_work.specs.Replacements.{replaced_by_all}
 use Rattle.law_work.specs.Writes.{writes_in}
 use Rattle.law_work.specs.Written.{is_written}
 use Rattle.law_work.proofs.Effects.{effect-replies, effect-rewrites}

@@ -1,8 +1,8 @@
 -- A tile that is filled, point by point.
-use Rattle.std.proofs.Common.{◌≡◌, ◌+◌, ◌<◌, ◌≤◌, ℕ, ℤ, List, [], ◌∷◌, ◌++◌, length, get_or, set, take, map, All, IsTrue, Option, Some, refl, sym, ap, ◌∙◌, subst, arith}
+use Rattle.std.proofs.Common.{◌≡◌, ◌+◌, ◌<◌, ◌≤◌, ℕ, ℤ, List, [], ◌∷◌, ◌++◌, length, set, take, map, All, IsTrue, Option, Some, refl, sym, ap, ◌∙◌, subst, arith}
 use Rattle.std.specs.List.{slice_get}
 use Rattle.std.proofs.lemmas.List.{map_more, take_all, take_more_set, length-set}
-use Rattle.std.proofs.lemmas.List.Elements.{All-cons, All-from_recursion, All-nil, recursion_from_All}
+use Rattle.std.proofs.lemmas.List.Elements.{All-from_recursion, All-nil, recursion_from_All}
 use Rattle.std.proofs.lemmas.Option.{get_or_from_slice_get, slice_get_within}
 use Rattle.ras_cells.specs.Atoms.{AreInRange}
 use Rattle.ras_cells.specs.Stored.{atoms_of}
@@ -17,7 +17,7 @@ use Rattle.spec_expressions.specs.Shape.{Box}
 use Rattle.spec_views.specs.Holdings.{Holding}
 use Rattle.ras_work.specs.declared.cells.NullRule.{NullRule}
 use Rattle.ras_work.specs.Filled.{IsFilled}
-use Rattle.ras_work.specs.Stores.{IsWrittenTile, number_at}
+use Rattle.ras_work.specs.Stores.{number_at}
 
 -- the point at a place is one of the box
 pub point_inside : (box : Box) (n : ℕ) (p : List ℤ) → slice_get (points_of box) n ≡ Some p → IsIn p box

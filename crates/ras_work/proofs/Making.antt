@@ -1,8 +1,7 @@
 -- The changes of each statement.
-use Rattle.std.proofs.Common.{◌≡◌, ◌+◌, ℕ, ℤ, false, List, [], ◌∷◌, ◌++◌, map, Option, Some, None, Result, Ok, Err, refl, sym, ap, ◌∙◌, subst}
+use Rattle.std.proofs.Common.{◌≡◌, ℕ, ℤ, false, List, [], ◌∷◌, ◌++◌, map, Option, None, Result, Ok, Err, refl, ap, ◌∙◌}
 use Rattle.std.specs.Option.{option_map}
 use Rattle.std.specs.Result.{IfOk}
-use Rattle.std.proofs.lemmas.List.{map-append}
 use Rattle.ras_domain.specs.declared.lock.LockName.{LockName}
 use Rattle.ras_domain.specs.declared.lock.LockName.TheVariants.{Collection, Domain}
 use Rattle.ras_store.specs.declared.change.Change.{Change}
@@ -14,7 +13,7 @@ use Rattle.spec_expressions.specs.Shape.{Box}
 use Rattle.spec_statements.specs.Effects.{Stores}
 use Rattle.spec_statements.specs.Limits.{is_select}
 use Rattle.spec_statements.specs.Statement.{Request}
-use Rattle.spec_views.specs.Holdings.{Holding, Holdings}
+use Rattle.spec_views.specs.Holdings.{Holdings}
 use Rattle.law_work.specs.ChangesFor.{changes_for, number_done, tile_after, tile_name, tile_replaced}
 use Rattle.law_work.specs.Replacements.{Replacement, replacement_of}
 use Rattle.law_work.specs.Sound.{AreSound, IsSoundWrite}

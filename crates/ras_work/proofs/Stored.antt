@@ -1,19 +1,16 @@
 -- What is stored at a point.
 use Rattle.std.proofs.Common.{◌≡◌, ℕ, ℤ, Bool, true, false, cond, List, map, Option, Some, None, Result, Ok, Err, refl, sym, ap, ◌∙◌, subst}
 use Rattle.std.specs.List.{slice_get, zip}
-use Rattle.arrayvec.specs.ArrayVec.{ArrayVec}
 use Rattle.ras_cells.specs.declared.cell.Cell.{Cell}
 use Rattle.ras_cells.specs.declared.cell.Cell.TheVariants.{Value}
 use Rattle.ras_cells.specs.declared.cell.CellFault.{CellFault}
 use Rattle.ras_cells.specs.declared.cell.CellFault.TheVariants.{CastRange}
 use Rattle.ras_cells.specs.declared.cell.CellType.{CellType}
 use Rattle.ras_cells.specs.Atoms.{AreInRange, are_in_range}
-use Rattle.ras_cells.specs.Stored.{NullSet, Numbers, atoms_of, default_of, stored_of}
+use Rattle.ras_cells.specs.Stored.{NullSet, Numbers, atoms_of, stored_of}
 use Rattle.ras_cells.proofs.Ranges.{AreInRange-are_in_range}
 use Rattle.ras_domain.specs.Region.{IsIn, place_in_rows, points_of}
-use Rattle.ras_domain.proofs.RowOrder.{place_in_rows-at}
 use Rattle.ras_store.specs.declared.write.Write.{Write}
-use Rattle.ras_syntax.specs.declared.types.SetType.{SetType}
 use Rattle.ras_tile.specs.Tile.{TileValue, tile_cell_at}
 use Rattle.spec_expressions.specs.Database.{stored_at}
 use Rattle.spec_statements.specs.Effects.{option_flat, or_else, store_for}

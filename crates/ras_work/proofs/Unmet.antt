@@ -1,5 +1,5 @@
 -- Tiles whose box changes where a domain grows.
-use Rattle.std.proofs.Common.{◌≡◌, ◌↔◌, ℕ, ℤ, Bool, true, false, not, List, length, Option, Some, None, refl, sym, ap, ◌∙◌, subst}
+use Rattle.std.proofs.Common.{◌≡◌, ◌↔◌, ℕ, ℤ, Bool, true, false, not, List, length, Some, None, refl, sym, ◌∙◌, subst}
 use Rattle.std.specs.Option.{IsSome}
 use Rattle.ras_domain.specs.Boxes.{is_same_box}
 use Rattle.ras_domain.specs.Region.{IsIn}

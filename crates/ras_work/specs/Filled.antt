@@ -1,5 +1,5 @@
 -- A tile that is filled, point by point.
-use Rattle.std.specs.Prelude.{◌≡◌, ℕ, List, map, take, length, All, IsTrue, Option}
+use Rattle.std.specs.Prelude.{◌≡◌, ℕ, map, take, length, All, IsTrue, Option}
 use Rattle.ras_cells.specs.Atoms.{AreInRange}
 use Rattle.ras_cells.specs.Stored.{atoms_of}
 use Rattle.ras_domain.specs.Region.{points_of}

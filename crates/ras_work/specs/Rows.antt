@@ -2,7 +2,7 @@
 use Rattle.std.specs.Prelude.{◌≡◌, ℕ, ℤ, if◌then◌else◌, List, [], ◌++◌, map, length}
 use Rattle.ras_domain.specs.declared.lock.LockName.TheVariants.{Domain}
 use Rattle.ras_domain.specs.Boxes.{Covers, is_same_box}
-use Rattle.ras_domain.specs.Region.{IsIn, IsRegion, points_of}
+use Rattle.ras_domain.specs.Region.{IsRegion, points_of}
 use Rattle.ras_store.specs.declared.write.Write.{Write}
 use Rattle.ras_store.specs.Databases.{holdings_of}
 use Rattle.ras_store.specs.View.{view_kept}
@@ -11,7 +11,6 @@ use Rattle.spec_expressions.specs.Shape.{Box}
 use Rattle.spec_statements.specs.Phases.{changed_tiles}
 use Rattle.law_work.specs.ChangesFor.{domain_in, domain_replaced, places_changed, tile_replaced}
 use Rattle.law_work.specs.Replacements.{Replacement}
-use Rattle.law_work.specs.Sound.{IsSoundWrite}
 use Rattle.law_work.specs.Writes.{stores_of_write}
 use Rattle.ras_work.specs.declared.rows.Row.{Row}
 use Rattle.ras_work.specs.Stores.{store_by}

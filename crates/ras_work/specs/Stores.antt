@@ -1,6 +1,5 @@
 -- What is stored of a write, and the tile that is made of it.
 use Rattle.std.specs.Prelude.{◌≡◌, ℤ, List, map, Option, option_map, Result}
-use Rattle.std.specs.List.{zip}
 use Rattle.std.specs.declared.alloc.Global.{Global}
 use Rattle.std.specs.declared.sync.Arc.{Arc}
 use Rattle.ras_cells.specs.declared.cell.Cell.{Cell}

@@ -40,7 +40,10 @@ fn copy_of(alloc: Global, change: &Change) -> Result<Change, AllocError>
 }
 
 /// The same information, or none.
-fn copy_of_info(alloc: Global, info: &Option<CollectionInfo>) -> Result<Option<CollectionInfo>, AllocError>
+fn copy_of_info(
+    alloc: Global,
+    info: &Option<CollectionInfo>,
+) -> Result<Option<CollectionInfo>, AllocError>
     ensures { IfOk result (λ copy. copy ≡ info.now) }
 {
     match info {

@@ -52,7 +52,11 @@ fn created(alloc: Global, name: &Name, of: u32) -> Result<(Changes, u64), AllocE
         oids: Identifiers::new(alloc),
     };
     let mut changes = Changes::new(alloc);
-    add(alloc, &mut changes, Change::Collection(name.try_clone(alloc)?, Some(info)))?;
+    add(
+        alloc,
+        &mut changes,
+        Change::Collection(name.try_clone(alloc)?, Some(info)),
+    )?;
     Ok((changes, 0))
 }
 
@@ -62,7 +66,11 @@ fn dropped(alloc: Global, name: &Name) -> Result<(Changes, u64), AllocError>
     ensures number { IfOk result (λ made. made.1 ≡ 0) }
 {
     let mut changes = Changes::new(alloc);
-    add(alloc, &mut changes, Change::Collection(name.try_clone(alloc)?, None))?;
+    add(
+        alloc,
+        &mut changes,
+        Change::Collection(name.try_clone(alloc)?, None),
+    )?;
     Ok((changes, 0))
 }
 
@@ -87,7 +95,11 @@ fn deleted(
         oids: without(alloc, &info.oids, &gone)?,
     };
     let mut changes = Changes::new(alloc);
-    add(alloc, &mut changes, Change::Collection(name.try_clone(alloc)?, Some(info)))?;
+    add(
+        alloc,
+        &mut changes,
+        Change::Collection(name.try_clone(alloc)?, Some(info)),
+    )?;
     Ok((changes, writes.len() as u64))
 }
 
@@ -171,9 +183,17 @@ fn array_of(
 {
     let mut changes = Changes::new(alloc);
     let info_after = with_next(alloc, info)?;
-    add(alloc, &mut changes, Change::Collection(into.try_clone(alloc)?, Some(info_after)))?;
+    add(
+        alloc,
+        &mut changes,
+        Change::Collection(into.try_clone(alloc)?, Some(info_after)),
+    )?;
     let domain = copy_of_region(&write.grown);
-    add(alloc, &mut changes, Change::Domain(into.try_clone(alloc)?, info.next, Some(domain)))?;
+    add(
+        alloc,
+        &mut changes,
+        Change::Domain(into.try_clone(alloc)?, info.next, Some(domain)),
+    )?;
     let nothing = View::new(alloc);
     let row = Row {
         name: into,

@@ -41,7 +41,12 @@ pub(crate) fn add(alloc: Global, changes: &mut Changes, change: Change) -> Resul
 
 /// Puts the tile at a place at the end of the changes. The error is want of memory, or a tile that no
 /// statement leaves.
-fn add_tile(alloc: Global, row: &Row, place: &Point, changes: &mut Changes) -> Result<(), AllocError>
+fn add_tile(
+    alloc: Global,
+    row: &Row,
+    place: &Point,
+    changes: &mut Changes,
+) -> Result<(), AllocError>
     requires extents { IsGrid row.now.of.now.extents.items }
     requires axes { length row.now.write.now.grown ≡ length row.now.of.now.extents.items }
     ensures { OnOk result (map replacement_of changes.new ≡ map replacement_of changes.old ++ row_tile row.now place.now.items ∷ []) }
@@ -57,7 +62,11 @@ fn add_tile(alloc: Global, row: &Row, place: &Point, changes: &mut Changes) -> R
     let tile = Arc::new(alloc, tile)?;
     let name = row.name.try_clone(alloc)?;
     let place = copy_of_place(place)?;
-    add(alloc, changes, Change::Tile(name, row.oid, place, Some(tile)))
+    add(
+        alloc,
+        changes,
+        Change::Tile(name, row.oid, place, Some(tile)),
+    )
 }
 
 /// Puts the tiles at some places at the end of the changes.

@@ -1,4 +1,4 @@
-use Rattle.std.proofs.Common.{◌≡◌, ◌+◌, ℕ, ℤ, List, [], ◌∷◌, ◌++◌, map, Some, sym, ap, ◌∙◌}
+use Rattle.std.proofs.Common.{◌≡◌, ℤ, List, ◌∷◌, map, Some, ap, ◌∙◌}
 use Rattle.ras_domain.specs.declared.lock.LockName.TheVariants.{Collection, Domain}
 use Rattle.ras_grid.specs.Grid.{places_meeting}
 use Rattle.ras_store.specs.declared.change.Change.{Change}
@@ -8,7 +8,7 @@ use Rattle.ras_store.specs.View.{view_kept}
 use Rattle.spec_statements.specs.Effects.{Stores, insert_store}
 use Rattle.spec_views.specs.Holdings.{collection_held, domain_held}
 use Rattle.law_work.specs.ChangesFor.{tile_replaced}
-use Rattle.law_work.specs.Replacements.{Replacement, replacement_of}
+use Rattle.law_work.specs.Replacements.{Replacement}
 use Rattle.law_work.specs.Writes.{stores_of_write}
 use Rattle.ras_work.proofs.Making.{new-tiles, two_and_more}
 use Rattle.ras_work.proofs.forms.array_of.Goals as goal

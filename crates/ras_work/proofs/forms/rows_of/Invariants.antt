@@ -1,4 +1,4 @@
-use Rattle.std.proofs.Common.{◌≡◌, List, map, flat_map, take, All}
+use Rattle.std.proofs.Common.{◌≡◌, map, flat_map, take, All}
 use Rattle.ras_store.specs.Databases.{holdings_of}
 use Rattle.ras_store.specs.View.{view_kept}
 use Rattle.law_work.specs.ChangesFor.{row_replaced}

@@ -2,7 +2,6 @@ use Rattle.std.proofs.Common.{◌≡◌, ◌++◌, ◌∷◌, [], map, Option, S
 use Rattle.std.specs.Arc.{arc_value}
 use Rattle.std.specs.List.{zip}
 use Rattle.std.specs.Option.{option_copied, option_map}
-use Rattle.arrayvec.specs.ArrayVec.{ArrayVec}
 use Rattle.ras_domain.specs.Region.{points_of}
 use Rattle.ras_domain.specs.declared.lock.LockName.TheVariants.{Tile}
 use Rattle.ras_grid.specs.Grid.{tile_in}
@@ -33,7 +32,7 @@ returns c =
     let seen : before ≡ holdings_of (view_kept c.args.row.now.view.now) (tile_name c.args.row.now.name.now c.args.row.now.oid c.args.place.now.items) =
     ap (option_map holding_kept) c.tile_of-old.ensures in
     let held : (let t : TileValue = arc_value c.in_ok-tile-2.tile in Some (tile_held (zip (points_of t.region) t.cells)))
-        ≡ tile_after of (holdings_of (view_kept c.args.row.now.view.now) (tile_name c.args.row.now.name.now c.args.row.now.oid c.args.place.now.items)) stores box =
+    ≡ tile_after of (holdings_of (view_kept c.args.row.now.view.now) (tile_name c.args.row.now.name.now c.args.row.now.oid c.args.place.now.items)) stores box =
     ap (λ (t : TileValue). Some (tile_held (zip (points_of t.region) t.cells))) c.in_ok-tile-2.ensures.ok
     ∙ written-tile of c.args.row.now.rule c.args.row.now.write.now before c.in-Some.region c.in_ok-tile.tile c.in_ok-tile.ensures
     ∙ ap (tile_after of before stores) c.in-Some.ensures.common
