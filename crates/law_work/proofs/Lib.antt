@@ -1,6 +1,7 @@
 pub mod Effects
 pub mod Forms
 pub mod Identifiers
+pub mod Parts
 pub mod Points
 pub mod Replaced
 pub mod Seen

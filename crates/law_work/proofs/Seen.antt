@@ -48,7 +48,7 @@ use Rattle.spec_statements.specs.Statement.{Request, StatementTree, update}
 use Rattle.spec_statements.specs.Validity.{IsArrayOf}
 use Rattle.spec_views.specs.Holdings.{Holdings, IsSeenBy, collection_held, domain_held, holding_at, holding_in, holding_of, lists_before}
 use Rattle.spec_views.specs.Writings.{RowWriting, row_writing}
-use Rattle.law_work.specs.ChangesFor.{domain_in, places_changed, tile_name}
+use Rattle.law_work.specs.ChangesFor.{held_domain, places_changed, tile_name}
 use Rattle.law_work.specs.Sound.{IsSoundWrite}
 use Rattle.law_work.specs.Writes.{numbers_stored, stores_of_write}
 use Rattle.law_work.proofs.Identifiers.{same_numbers}
@@ -299,7 +299,7 @@ module _ (types : List SetType) (source : CheckedSource) (axes : Option Axes) (t
         grown_ordered = All-from_recursion IsOrdered write.grown fit.ordered;
         region_long = sound.axes;
         region_ordered = sound.region.ordered;
-        covers = λ p inside. sound.grows p (subst (λ o. IsIn p (domain_in o)) (sym domain-is) inside);
+        covers = λ p inside. sound.grows p (subst (λ o. IsIn p (held_domain o)) (sym domain-is) inside);
         within = each-zip (λ q. IsIn q write.region) (points_of write.region) _ (each_point write.region);
         domain_is = domain-is;
         tiles_are = λ place has.

@@ -44,7 +44,7 @@ use Rattle.spec_statements.specs.Validity.{IsArrayOf}
 use Rattle.spec_views.specs.Holdings.{Holding, Holdings, domain_held, collection_held, holding_in, holding_of}
 use Rattle.spec_views.specs.Work.{RewritesTo}
 use Rattle.spec_views.specs.Writings.{RowWriting, with_rewritten, with_writings}
-use Rattle.law_work.specs.ChangesFor.{domain_in, domain_replaced, places_changed, row_replaced, tile_after, tile_name}
+use Rattle.law_work.specs.ChangesFor.{held_domain, domain_replaced, places_changed, row_replaced, tile_after, tile_name}
 use Rattle.law_work.specs.Replacements.{Replacement, replaced_by_all}
 use Rattle.law_work.specs.Writes.{stores_of_write}
 use Rattle.law_work.proofs.Forms.{AreIn, held_at, held_in, is_listed_place, listed-place, place-listed, rewrites-one, tiles-collection, tiles-domain, tiles-in, tiles-tile, tiles_replaced, under_all}
@@ -137,8 +137,8 @@ module _ (types : List SetType) (name : List ℕ) (of : SetType) (holdings : Hol
 
   pub row-in : (write : Write) → AreIn name (row_replaced of name holdings write)
   row-in write =
-      in-append name (domain_replaced name write.oid (domain_in (holdings (Domain name write.oid))) write.grown) _ (domain-in (domain_in (holdings (Domain name write.oid))) write.grown write.oid)
-      (tiles-in name write.oid (tile_at write) (places_changed of.extents.items (domain_in (holdings (Domain name write.oid))) write.grown write.region))
+      in-append name (domain_replaced name write.oid (held_domain (holdings (Domain name write.oid))) write.grown) _ (domain-in (held_domain (holdings (Domain name write.oid))) write.grown write.oid)
+      (tiles-in name write.oid (tile_at write) (places_changed of.extents.items (held_domain (holdings (Domain name write.oid))) write.grown write.region))
 
   -- ---- of what isn't the row's
 
@@ -332,7 +332,7 @@ module _ (types : List SetType) (name : List ℕ) (of : SetType) (holdings : Hol
     held-stays [] id lock before array others = refl
     held-stays (write ∷ writes) id lock before array others =
         under-append (row_replaced of name holdings write) (replaced_all writes) lock before
-        ∙ ap (under_all (replaced_all writes) lock) (row-other (domain_in (holdings (Domain name write.oid))) write id lock before array others.0)
+        ∙ ap (under_all (replaced_all writes) lock) (row-other (held_domain (holdings (Domain name write.oid))) write id lock before array others.0)
         ∙ held-stays writes id lock before array others.1
 
     -- one row's array, seen in some way
@@ -341,7 +341,7 @@ module _ (types : List SetType) (name : List ℕ) (of : SetType) (holdings : Hol
         holding_in (Some (show (written write row))) ≡ under_all (row_over row.array.domain write) lock (holding_in (Some (show row.array)))
 
     over_held : (write : Write) (row : IsRow write) → row_replaced of name holdings write ≡ row_over row.array.domain write
-    over_held write row = ap (λ o. row_over (domain_in o) write) row.domain_is
+    over_held write row = ap (λ o. row_over (held_domain o) write) row.domain_is
 
     pub array-replaced : (show : Array → Seen) (id : ℕ) (lock : LockName) → IsOfArray id lock
         → ((write : Write) (row : IsRow write) → write.oid ≡ id → IsReplacedRow show lock write row)
@@ -372,7 +372,7 @@ module _ (types : List SetType) (name : List ℕ) (of : SetType) (holdings : Hol
             ap (λ as_. held_at show id as_) (put write rows.0 arrays writes)
             ∙ rest
             (lookup-insert_entry_other nat_cmp exact_unsigned write.oid (written write rows.0) id arrays (turned write.oid id differs) ∙ same)
-            ∙ ap (under_all (replaced_all writes) lock) (sym (row-other (domain_in (holdings (Domain name write.oid))) write id lock (held_at show id c.arrays) array differs))
+            ∙ ap (under_all (replaced_all writes) lock) (sym (row-other (held_domain (holdings (Domain name write.oid))) write id lock (held_at show id c.arrays) array differs))
             ∙ sym (under-append (row_replaced of name holdings write) (replaced_all writes) lock (held_at show id c.arrays))
 
     -- ---- the collection
@@ -381,7 +381,7 @@ module _ (types : List SetType) (name : List ℕ) (of : SetType) (holdings : Hol
     collection-stays [] n before = refl
     collection-stays (write ∷ writes) n before =
         under-append (row_replaced of name holdings write) (replaced_all writes) (Collection n) before
-        ∙ ap (under_all (replaced_all writes) (Collection n)) (row-collection (domain_in (holdings (Domain name write.oid))) write n before)
+        ∙ ap (under_all (replaced_all writes) (Collection n)) (row-collection (held_domain (holdings (Domain name write.oid))) write n before)
         ∙ collection-stays writes n before
 
     all-in : (writes : List Write) → AreIn name (replaced_all writes)

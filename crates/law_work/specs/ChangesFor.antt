@@ -43,9 +43,9 @@ tile_replaced of name id grown stores before place =
 
 -- ---- a row of an update
 
-abbrev pub domain_in : Option Holding → Box
-domain_in (Some (domain_held domain)) = domain
-domain_in other = []
+abbrev pub held_domain : Option Holding → Box
+held_domain (Some (domain_held domain)) = domain
+held_domain other = []
 
 abbrev pub domain_replaced : List ℕ → ℕ → Box → Box → List Replacement
 domain_replaced name id old grown = if is_same_box old grown then [] else (Domain name id, Some (domain_held grown)) ∷ []
@@ -56,9 +56,9 @@ places_changed extents old grown region = places_meeting extents region ++ (if i
 
 abbrev pub row_replaced : SetType → List ℕ → Holdings → Write → List Replacement
 row_replaced of name holdings write =
-    domain_replaced name write.oid (domain_in (holdings (Domain name write.oid))) write.grown
+    domain_replaced name write.oid (held_domain (holdings (Domain name write.oid))) write.grown
     ++ map (tile_replaced of name write.oid write.grown (stores_of_write (update_store of) write) holdings)
-    (places_changed of.extents.items (domain_in (holdings (Domain name write.oid))) write.grown write.region)
+    (places_changed of.extents.items (held_domain (holdings (Domain name write.oid))) write.grown write.region)
 
 -- ---- statements
 

@@ -9,14 +9,14 @@ use Rattle.ras_store.specs.declared.write.Write.{Write}
 use Rattle.ras_syntax.specs.declared.types.SetType.{SetType}
 use Rattle.spec_statements.specs.Statement.{Request, select, insert, delete, update, create, drop}
 use Rattle.spec_views.specs.Holdings.{Holdings}
-use Rattle.law_work.specs.ChangesFor.{domain_in}
+use Rattle.law_work.specs.ChangesFor.{held_domain}
 
 -- the written region is one of the type's axes, with a cell for each point, and the domain only grows
 pub record IsSoundWrite (of : SetType) (name : List ℕ) (holdings : Holdings) (write : Write) : Type 0 where
   pub region : IsRegion write.region
   pub axes : length write.region ≡ length of.extents.items
   pub each_point : length write.cells.cells ≡ length (points_of write.region)
-  pub grows : (p : List ℤ) → IsIn p (domain_in (holdings (Domain name write.oid))) → IsIn p write.grown
+  pub grows : (p : List ℤ) → IsIn p (held_domain (holdings (Domain name write.oid))) → IsIn p write.grown
 
 -- the rows of an update are in the order of their arrays, each once
 pub record AreSoundRows (of : SetType) (name : List ℕ) (holdings : Holdings) (writes : List Write) : Type 0 where

@@ -3,7 +3,7 @@ ghost use Rattle.std.specs.Prelude.{◌≡◌, ◌⊎◌, List, Ok, Option, None
 ghost use Rattle.ras_domain.specs.declared.lock.LockName.{LockName};
 ghost use Rattle.ras_store.specs.declared.change.Change.{Change};
 ghost use Rattle.ras_store.specs.declared.write.Write.{Write};
-ghost use Rattle.ras_store.specs.Databases.{rewrites_of};
+ghost use Rattle.ras_store.specs.Databases.{holdings_of, rewrites_of};
 ghost use Rattle.ras_store.specs.Kept.{Kept, changed_by_all};
 ghost use Rattle.ras_syntax.specs.declared.statement.Statement.{Statement};
 ghost use Rattle.ras_syntax.specs.declared.typed.Checked.{Checked};
@@ -14,6 +14,7 @@ ghost use Rattle.spec_statements.specs.Limits.{is_select};
 ghost use Rattle.spec_statements.specs.Machine.{checked_over, effect_of, first_list, is_too_long, reply_of};
 ghost use Rattle.spec_statements.specs.Reply.{done};
 ghost use Rattle.spec_statements.specs.Statement.{statement_tree_of};
+ghost use Rattle.spec_shown.specs.Shown.{IsPartOf};
 ghost use Rattle.spec_views.specs.Holdings.{Holding, Holdings, IsSeenBy};
 ghost use Rattle.spec_views.specs.Work.{RewritesTo};
 ghost use Rattle.spec_views.specs.Writings.{written_by};
@@ -60,4 +61,16 @@ pub fn changes_rewrite_by_parts()
     ensures { (changes : List Change) (name : LockName)
         → ((held : Option Holding) → rewrites_of changes name held ≡ held)
         ⊎ ((held : Option Holding) → rewrites_of changes name held ≡ rewrites_of changes name None) }
+{}
+
+/// A view to which changes were applied holds what they make of what it held.
+pub fn views_are_rewritten()
+    ensures { (changes : List Change) (kept : LockName → Option Kept) (name : LockName)
+        → holdings_of (λ name. changed_by_all changes name (kept name)) name ≡ rewrites_of changes name (holdings_of kept name) }
+{}
+
+/// What is held of a database is, rewritten, a part of the database that is made of it.
+pub fn parts_stay_parts()
+    ensures { (types : List SetType) (changes : List Change) (holdings : Holdings) (before next : Database) → IsPartOf types holdings before
+        → RewritesTo types (rewrites_of changes) before next → IsPartOf types (λ name. rewrites_of changes name (holdings name)) next }
 {}

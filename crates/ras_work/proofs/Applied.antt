@@ -28,7 +28,7 @@ use Rattle.law_work.proofs.Effects.{effect-replies, effect-rewrites}
 use Rattle.law_work.proofs.Replaced.{all-replaced}
 use Rattle.law_work.proofs.WrittenNames.{unwritten-stays, written-same}
 use Rattle.ras_work.specs.Copies.{AreCopies, put_by}
-use Rattle.ras_work.specs.Made.{IsMade}
+use Rattle.ras_work.specs.Made.{AreMade}
 use Rattle.ras_work.specs.declared.work.Work.{Work}
 use Rattle.ras_work.specs.Works.{IsChangedWork, IsEffect, IsOwnSeen, IsSameWork, work_changes, work_kept}
 
@@ -113,7 +113,7 @@ own-piece changes name seen put own = at (is_written changes name) refl
 -- ---- what changes do
 
 pub made-effect : (checked : Checked) (computed : Computed) (holdings : Holdings) (more : List Change) (number : ℕ)
-    → IsMade (statement_tree_of checked).request holdings (writes_in computed) more number → IsEffect checked computed holdings more number
+    → AreMade (statement_tree_of checked).request holdings (writes_in computed) more number → IsEffect checked computed holdings more number
 made-effect checked computed holdings more number made types statement database are short is seen written = (
   λ name.
       effect-rewrites types statement database checked holdings (writes_in computed) are short is seen written made.sound name

@@ -15,7 +15,7 @@ use Rattle.law_work.specs.ChangesFor.{tile_after, tile_holding}
 use Rattle.law_work.specs.Replacements.{Replacement, replacement_of}
 use Rattle.law_work.specs.Writes.{stores_of_write}
 use Rattle.ras_work.specs.declared.cells.NullRule.{NullRule}
-use Rattle.ras_work.specs.Stores.{IsWrittenTile, number_at, store_by}
+use Rattle.ras_work.specs.Stores.{IsWrittenTile, number_written, store_by}
 
 pub on_ok : {A E : Type 0} (r : Result A E) (P Q : Type 0) → (P → Q) → OnOk r P → OnOk r Q
 on_ok (Ok x) P Q gives holds = gives holds
@@ -33,7 +33,7 @@ some_points f (p ∷ ps) some = let head : List ℤ × List ℤ = (p, f p) in ap
 pub written-tile : (of : SetType) (rule : NullRule) (write : Write) (before : Option Holding) (box : Box) (tile : TileValue) → IsWrittenTile of rule write before box tile
     → Some (tile_held (zip (points_of tile.region) tile.cells)) ≡ tile_after of before (stores_of_write (store_by rule of) write) box
 written-tile of rule write before box tile w =
-    let f : List ℤ → List ℤ = number_at of rule write before in
+    let f : List ℤ → List ℤ = number_written of rule write before in
     (λ i. Some (tile_held (zip (points_of (w.region i)) (w.cells i))))
     ∙ some_points f (points_of box) (subst (λ b. 1 ≤ length (points_of b)) w.region (one-le-length-points_of tile.region w.is_tile.box.ordered))
 

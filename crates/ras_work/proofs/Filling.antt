@@ -16,8 +16,8 @@ use Rattle.law_lists.proofs.Each.{append_all}
 use Rattle.spec_expressions.specs.Shape.{Box}
 use Rattle.spec_views.specs.Holdings.{Holding}
 use Rattle.ras_work.specs.declared.cells.NullRule.{NullRule}
-use Rattle.ras_work.specs.Filled.{IsFilled}
-use Rattle.ras_work.specs.Stores.{number_at}
+use Rattle.ras_work.specs.Filled.{IsFilledUpTo}
+use Rattle.ras_work.specs.Stores.{number_written}
 
 -- the point at a place is one of the box
 pub point_inside : (box : Box) (n : ℕ) (p : List ℤ) → slice_get (points_of box) n ≡ Some p → IsIn p box
@@ -28,14 +28,14 @@ module _ (of : SetType) (rule : NullRule) (write : Write) (before : Option Holdi
   Range = AreInRange (atoms_of of.cell)
 
   abbrev number : List ℤ → List ℤ
-  number = number_at of rule write before
+  number = number_written of rule write before
 
-  pub filled-none : (tile : TileValue) → IsTrue tile.writable → IsFilled of rule write before 0 tile tile
+  pub filled-none : (tile : TileValue) → IsTrue tile.writable → IsFilledUpTo of rule write before 0 tile tile
   filled-none tile writable = record { region = refl; width = refl; writable = writable; long = refl; cells = refl; range = All-nil Range }
 
-  pub filled-more : (old tile new : TileValue) (n : ℕ) (p numbers : List ℤ) → IsTile tile → IsFilled of rule write before n old tile
-      → slice_get (points_of tile.region) n ≡ Some p → new ≡ record tile { cells = set tile.cells (place_in_rows tile.region p) numbers } → numbers ≡ number_at of rule write before p
-      → AreInRange (atoms_of of.cell) numbers → IsFilled of rule write before (n + 1) old new
+  pub filled-more : (old tile new : TileValue) (n : ℕ) (p numbers : List ℤ) → IsTile tile → IsFilledUpTo of rule write before n old tile
+      → slice_get (points_of tile.region) n ≡ Some p → new ≡ record tile { cells = set tile.cells (place_in_rows tile.region p) numbers } → numbers ≡ number_written of rule write before p
+      → AreInRange (atoms_of of.cell) numbers → IsFilledUpTo of rule write before (n + 1) old new
   filled-more old tile new n p numbers is_tile filled at is same fits =
       let place : place_in_rows tile.region p ≡ n = place_in_rows-at tile.region n p at in
       let within : n < length (points_of tile.region) = slice_get_within (points_of tile.region) n p at in
@@ -43,7 +43,7 @@ module _ (of : SetType) (rule : NullRule) (write : Write) (before : Option Holdi
       let at_old : slice_get (points_of old.region) n ≡ Some p = subst (λ b. slice_get (points_of b) n ≡ Some p) filled.region at in
       let front : take (n + 1) (set tile.cells (place_in_rows tile.region p) numbers) ≡ take n tile.cells ++ numbers ∷ [] =
       ap (λ m. take (n + 1) (set tile.cells m numbers)) place ∙ take_more_set tile.cells n numbers here in
-      subst (λ t. IsFilled of rule write before (n + 1) old t) (sym is) (record {
+      subst (λ t. IsFilledUpTo of rule write before (n + 1) old t) (sym is) (record {
         region = filled.region;
         width = filled.width;
         writable = filled.writable;
@@ -56,7 +56,7 @@ module _ (of : SetType) (rule : NullRule) (write : Write) (before : Option Holdi
       })
 
   -- all cells
-  pub filled-whole : (old tile : TileValue) → IsTile old → IsFilled of rule write before (length (points_of old.region)) old tile → (tile.cells ≡ map (number_at of rule write before) (points_of old.region)) × All (AreInRange (atoms_of of.cell)) tile.cells
+  pub filled-whole : (old tile : TileValue) → IsTile old → IsFilledUpTo of rule write before (length (points_of old.region)) old tile → (tile.cells ≡ map (number_written of rule write before) (points_of old.region)) × All (AreInRange (atoms_of of.cell)) tile.cells
   filled-whole old tile is_tile filled =
       let long : length tile.cells ≤ length (points_of old.region) = omega (arith, filled.long, is_tile.each_point) in
       let whole : take (length (points_of old.region)) tile.cells ≡ tile.cells = take_all _ tile.cells long in

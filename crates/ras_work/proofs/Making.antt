@@ -19,19 +19,19 @@ use Rattle.law_work.specs.Replacements.{Replacement, replacement_of}
 use Rattle.law_work.specs.Sound.{AreSound, IsSoundWrite}
 use Rattle.ras_grid.specs.Grid.{tile_in}
 use Rattle.ras_domain.specs.declared.lock.LockName.TheVariants as locks
-use Rattle.law_work.specs.ChangesFor.{domain_in}
-use Rattle.ras_work.specs.Made.{IsMade}
+use Rattle.law_work.specs.ChangesFor.{held_domain}
+use Rattle.ras_work.specs.Made.{AreMade}
 use Rattle.ras_work.specs.Rows.{IsFitting}
 
 -- what was made, part by part
 pub made-of : {E : Type 0} (r : Result (List Change × ℕ) E) (request : Request) (holdings : Holdings) (writes : List Write)
     → IfOk r (λ made. map replacement_of made.0 ≡ changes_for request holdings writes) → IfOk r (λ made. made.1 ≡ number_done request holdings writes)
-    → IfOk r (λ made. AreSound request holdings writes) → is_select request ≡ false → IfOk r (λ made. IsMade request holdings writes made.0 made.1)
+    → IfOk r (λ made. AreSound request holdings writes) → is_select request ≡ false → IfOk r (λ made. AreMade request holdings writes made.0 made.1)
 made-of (Ok made) request holdings writes replaced counted sound no_select = record { replaced = replaced; counted = counted; sound = sound; no_select = no_select }
 made-of (Err e) request holdings writes replaced counted sound no_select = tt
 
 -- a write that was looked at is sound
-pub fitting-sound : (of : SetType) (name : List ℕ) (holdings : Holdings) (write : Write) → IsFitting of write (domain_in (holdings (locks.Domain name write.oid))) → IsSoundWrite of name holdings write
+pub fitting-sound : (of : SetType) (name : List ℕ) (holdings : Holdings) (write : Write) → IsFitting of write (held_domain (holdings (locks.Domain name write.oid))) → IsSoundWrite of name holdings write
 fitting-sound of name holdings write fits = record { region = fits.region; axes = fits.region_axes; each_point = fits.each_point; grows = fits.covers }
 
 -- where nothing is seen, the tiles are new

@@ -10,7 +10,7 @@ use Rattle.law_work.specs.Replacements.{replacement_of}
 use Rattle.law_work.specs.Sound.{AreSound}
 
 -- changes that replace what the writes stand for, and the number of the answer
-pub record IsMade (request : Request) (holdings : Holdings) (writes : List Write) (changes : List Change) (number : ℕ) : Type 0 where
+pub record AreMade (request : Request) (holdings : Holdings) (writes : List Write) (changes : List Change) (number : ℕ) : Type 0 where
   pub replaced : map replacement_of changes ≡ changes_for request holdings writes
   pub counted : number ≡ number_done request holdings writes
   pub sound : AreSound request holdings writes

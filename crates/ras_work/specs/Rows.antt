@@ -9,7 +9,7 @@ use Rattle.ras_store.specs.View.{view_kept}
 use Rattle.ras_syntax.specs.declared.types.SetType.{SetType}
 use Rattle.spec_expressions.specs.Shape.{Box}
 use Rattle.spec_statements.specs.Phases.{changed_tiles}
-use Rattle.law_work.specs.ChangesFor.{domain_in, domain_replaced, places_changed, tile_replaced}
+use Rattle.law_work.specs.ChangesFor.{held_domain, domain_replaced, places_changed, tile_replaced}
 use Rattle.law_work.specs.Replacements.{Replacement}
 use Rattle.law_work.specs.Writes.{stores_of_write}
 use Rattle.ras_work.specs.declared.rows.Row.{Row}
@@ -32,7 +32,7 @@ row_changes row old =
 
 -- the domain of a row's array
 abbrev pub row_domain : Row → Box
-row_domain row = domain_in (holdings_of (view_kept row.view.now) (Domain row.name.now row.oid))
+row_domain row = held_domain (holdings_of (view_kept row.view.now) (Domain row.name.now row.oid))
 
 -- the places of the tiles whose box changes
 abbrev pub places_grown : List ℕ → Box → Box → List (List ℤ)

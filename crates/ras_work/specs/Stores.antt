@@ -28,11 +28,11 @@ abbrev pub tile_held_of : Option (Arc TileValue Global) → Option Holding
 tile_held_of tile = option_map holding_kept (kept_tile tile)
 
 -- the numbers at a point after a write, over the tile that was there
-abbrev pub number_at : SetType → NullRule → Write → Option Holding → List ℤ → List ℤ
-number_at of rule write before p = number_after of (array_held before) (stores_of_write (store_by rule of) write) p
+abbrev pub number_written : SetType → NullRule → Write → Option Holding → List ℤ → List ℤ
+number_written of rule write before p = number_after of (array_held before) (stores_of_write (store_by rule of) write) p
 
 -- the tile on a box that has these numbers
 pub record IsWrittenTile (of : SetType) (rule : NullRule) (write : Write) (before : Option Holding) (box : Box) (tile : TileValue) : Type 0 where
   pub region : tile.region ≡ box
   pub is_tile : IsTile tile
-  pub cells : tile.cells ≡ map (number_at of rule write before) (points_of box)
+  pub cells : tile.cells ≡ map (number_written of rule write before) (points_of box)

@@ -19,7 +19,7 @@ use Rattle.spec_views.specs.Holdings.{Holdings, IsSeenBy}
 use Rattle.spec_views.specs.Work.{RewritesTo}
 use Rattle.spec_views.specs.Writings.{written_by}
 use Rattle.law_work.specs.Writes.{writes_in, writings_of}
-use Rattle.ras_work.specs.Made.{IsMade}
+use Rattle.ras_work.specs.Made.{AreMade}
 
 -- what a work sees under a name, and its changes so far, in order
 abbrev pub work_kept : Work → LockName → Option Kept
@@ -55,5 +55,5 @@ IsEffect checked computed holdings more number =
 pub record IsApplied (checked : Checked) (computed : Computed) (number : ℕ) (old new : Work) : Type 0 where
   pub more : List Change
   pub changed : IsChangedWork old new more
-  pub made : IsMade (statement_tree_of checked).request (holdings_of (work_kept old)) (writes_in computed) more number
+  pub made : AreMade (statement_tree_of checked).request (holdings_of (work_kept old)) (writes_in computed) more number
   pub effect : IsEffect checked computed (holdings_of (work_kept old)) more number

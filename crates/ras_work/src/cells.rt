@@ -7,7 +7,7 @@ ghost use Rattle.spec_expressions.specs.Database.{stored_at};
 ghost use Rattle.spec_statements.specs.Effects.{insert_store, or_else, store_for};
 ghost use Rattle.law_work.specs.ChangesFor.{array_held};
 ghost use Rattle.law_work.specs.Writes.{numbers_stored, stores_of_write};
-ghost use Rattle.ras_work.specs.Stores.{number_at, store_by, tile_held_of};
+ghost use Rattle.ras_work.specs.Stores.{number_written, store_by, tile_held_of};
 
 use ras_cells::{Cell, Numbers, default_cell, to_stored};
 use ras_domain::Point;
@@ -35,7 +35,7 @@ pub(crate) fn numbers_at(
     p: &Point,
 ) -> Option<Numbers>
     ensures numbers { IfSome result (λ numbers. numbers.items
-        ≡ number_at of.now rule write.now (tile_held_of (option_copied old.entry)) p.now.items) }
+        ≡ number_written of.now rule write.now (tile_held_of (option_copied old.entry)) p.now.items) }
     ensures range { IfSome result (λ numbers. AreInRange (atoms_of of.now.cell) numbers.items) }
 {
     match written_at(of, rule, write, p)? {

@@ -10,7 +10,7 @@ ghost use Rattle.spec_views.specs.Holdings.{collection_held};
 ghost use Rattle.law_work.specs.ChangesFor.{array_inserted, collection_without, first_inserted, identifiers_without, number_inserted, row_replaced};
 ghost use Rattle.law_work.specs.Replacements.{replacement_of};
 ghost use Rattle.law_work.specs.Sound.{AreSoundRows, IsSoundWrite};
-ghost use Rattle.ras_work.specs.Made.{IsMade};
+ghost use Rattle.ras_work.specs.Made.{AreMade};
 
 use crate::cells::NullRule;
 use crate::copies::copy_of_region;
@@ -29,7 +29,7 @@ pub(crate) fn changes_of(
     checked: &Checked,
     writes: &[Write],
 ) -> Result<(Changes, u64), AllocError>
-    ensures { IfOk result (λ made. IsMade (request_of checked.now.form) (holdings_of (view_kept view.now)) writes.now made.0 made.1) }
+    ensures { IfOk result (λ made. AreMade (request_of checked.now.form) (holdings_of (view_kept view.now)) writes.now made.0 made.1) }
 {
     match &checked.form {
         CheckedForm::Select { .. } => Err(AllocError),

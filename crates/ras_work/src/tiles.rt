@@ -9,7 +9,7 @@ ghost use Rattle.ras_store.specs.View.{view_kept};
 ghost use Rattle.law_work.specs.ChangesFor.{tile_replaced};
 ghost use Rattle.law_work.specs.Replacements.{replacement_of};
 ghost use Rattle.law_work.specs.Writes.{stores_of_write};
-ghost use Rattle.ras_work.specs.Filled.{IsFilled};
+ghost use Rattle.ras_work.specs.Filled.{IsFilledUpTo};
 ghost use Rattle.ras_work.specs.Stores.{IsWrittenTile, store_by, tile_held_of};
 
 use crate::cells::{NullRule, numbers_at};
@@ -53,7 +53,7 @@ fn fill(
 ) -> Result<(), AllocError>
     requires writable { IsTrue tile.old.writable }
     requires width { tile.old.width ≡ length (atoms_of of.now.cell) }
-    ensures { OnOk result (IsFilled of.now rule write.now (tile_held_of (option_copied old.entry)) (length (points_of tile.old.region)) tile.old tile.new) }
+    ensures { OnOk result (IsFilledUpTo of.now rule write.now (tile_held_of (option_copied old.entry)) (length (points_of tile.old.region)) tile.old tile.new) }
 {
     let volume = tile.region().volume();
     for place in 0..volume {
