@@ -1,0 +1,9 @@
+pub mod Effects
+pub mod Forms
+pub mod Identifiers
+pub mod Parts
+pub mod Points
+pub mod Replaced
+pub mod Seen
+pub mod Updates
+pub mod WrittenNames
