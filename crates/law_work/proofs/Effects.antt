@@ -34,7 +34,8 @@ use Rattle.law_views.proofs.Seen.{earlier_listed}
 use Rattle.spec_expressions.specs.Database.{Collection as CollectionOf, Database}
 use Rattle.spec_expressions.specs.SetTypes.{AreTypes, IsSetType}
 use Rattle.spec_expressions.specs.Tree.{Tree}
-use Rattle.spec_statements.specs.Effects.{Stores, grown_of, insert_outcome, insert_store, next_of, no_array, outcome_of_plans, plan_stores, reply_in, stores_of_plans, update_store, with_arrays, with_changed, with_inserted, with_updated, without_arrays, written_array}
+use Rattle.spec_statements.specs.Effects.{Stores, grown_of, insert_outcome, insert_store, next_of, no_array, outcome_of_plans, plan_stores}
+use Rattle.spec_statements.specs.Effects.{reply_in, stores_of_plans, update_store, with_arrays, with_changed, with_inserted, with_updated, without_arrays, written_array}
 use Rattle.spec_statements.specs.Limits.{limited_locks}
 use Rattle.spec_statements.specs.Locks.{Lock}
 use Rattle.spec_statements.specs.Machine.{checked_over, effect_after_check, effect_of, first_list, is_too_long, needs_of, reply_after_check, reply_of, wanted_at_first}
@@ -61,7 +62,8 @@ ok_same a b is = ok_keeps (λ x. a ≡ x) a b is refl
 
 -- the identifiers of a delete's writes
 gone-writes : (writes : List Write)
-    → flat_map (λ (w : RowWriting). w.identifiers) (map (λ (write : Write). (let w : RowWriting = record { identifiers = write.oid ∷ []; grown = []; stores = [] } in w)) writes) ≡ map (λ write. write.oid) writes
+    → flat_map (λ (w : RowWriting). w.identifiers) (map (λ (write : Write). (let w : RowWriting = record { identifiers = write.oid ∷ []; grown = []; stores = [] } in w)) writes) ≡ map
+    (λ write. write.oid) writes
 gone-writes [] = refl
 gone-writes (write ∷ writes) = ap (λ ids. write.oid ∷ ids) (gone-writes writes)
 
@@ -89,7 +91,8 @@ module _ (types : List SetType) (statement : Statement) (database : Database) (h
     abbrev Rewritten : Request → List Write → Type 0
     Rewritten request writes = RewritesTo types (replaced_by_all (changes_for request holdings writes)) database (applied request (writings_of request writes) database)
 
-    inserted : (into : List ℕ) (of : SetType) (body : Tree) (plans : List Plan) (made : List (Plan × Stores)) (writes : List Write) → IsCheckedOver types database (wanted_at_first statement.form) (insert into of body)
+    inserted : (into : List ℕ) (of : SetType) (body : Tree) (plans : List Plan) (made : List (Plan × Stores)) (writes : List Write)
+        → IsCheckedOver types database (wanted_at_first statement.form) (insert into of body)
         → AllByRecursion (λ one. IsFit of (grown_of one.0)) made → map row_writing made ≡ writings_of (insert into of body) writes → Rewritten (insert into of body) writes
     inserted into of body plans made [] checked fits same = λ name. refl
     inserted into of body plans [] (write ∷ writes) checked fits same = absurd (cc)
@@ -119,7 +122,8 @@ module _ (types : List SetType) (statement : Statement) (database : Database) (h
     forms (delete source condition) plans writes checked are_plans is sound four =
         let (c, there) = collection_in types database source.collection source.of seen.valid checked.1 in
         let gone : List ℕ = map (λ write. write.oid) writes in
-        subst (λ held. RewritesTo types (replaced_by_all (collection_without source.collection gone held)) database (applied (delete source condition) (writings_of (delete source condition) writes) database))
+        subst (λ held. RewritesTo types (replaced_by_all (collection_without source.collection gone held)) database
+        (applied (delete source condition) (writings_of (delete source condition) writes) database))
         (sym (collection-seen source.collection Exclusive source.of c there checked.0))
         (subst (λ ids. RewritesTo types (replaced_by_all (collection_without source.collection gone (Some (collection_held c.set_type c.next (keys_of c.arrays))))) database
         (with_changed source.collection (λ c. with_arrays c (without_arrays c.arrays ids)) database)) (sym (gone-writes writes))
@@ -127,7 +131,8 @@ module _ (types : List SetType) (statement : Statement) (database : Database) (h
     forms (update source axes target body condition) plans writes checked are_plans is sound four =
         let (c, there) = collection_in types database source.collection source.of seen.valid checked.1 in
         let type : IsSetType source.of = type_fits types c.set_type source.of are there.type in
-        let (made, are_made, last) = bind_ok (stores_of_plans (update_store source.of) body plans) (λ made. Ok (map row_writing made)) (writings_of (update source axes target body condition) writes) is in
+        let (made, are_made, last) = bind_ok (stores_of_plans (update_store source.of) body plans)
+        (λ made. Ok (map row_writing made)) (writings_of (update source axes target body condition) writes) is in
         let same = ok_same (map row_writing made) (writings_of (update source axes target body condition) writes) last in
         update-rewrites types source.collection source.of holdings database c there type writes
         (each_row_of types source axes target body condition size database plans made c there type _ made writes
@@ -139,7 +144,8 @@ module _ (types : List SetType) (statement : Statement) (database : Database) (h
     forms (drop name) plans writes checked are_plans is sound four = drop-rewrites types name database seen.valid
 
 -- the locks of the fourth phase are among those of the phases before the fifth
-fourth-listed : (types : List SetType) (statement : Statement) (database : Database) (checked : Checked) → is_too_long (first_list statement) ≡ false → checked_over types statement database ≡ Ok checked
+fourth-listed : (types : List SetType) (statement : Statement) (database : Database) (checked : Checked) → is_too_long (first_list statement) ≡ false
+    → checked_over types statement database ≡ Ok checked
     → (plans : List Plan) → until_bodies (statement_tree_of checked) database ≡ Ok plans → (lock : Lock) → Contains (phase_4_list (statement_tree_of checked) plans) lock
     → Contains (lists_before types statement 5 database) lock
 fourth-listed types statement database checked short is plans are_plans lock has =
@@ -183,7 +189,8 @@ same-length f g xs ys same = sym (length-map xs f) ∙ ap length same ∙ length
 
 module _ (types : List SetType) (statement : Statement) (database : Database) (holdings : Holdings) (are : AreTypes types) (short : is_too_long (first_list statement) ≡ false)
     (seen : IsSeenBy types holdings statement 5 database) where
-  insert-replies : (into : List ℕ) (of : SetType) (body : Tree) (made : List (Plan × Stores)) (writes : List Write) → IsCheckedOver types database (wanted_at_first statement.form) (insert into of body)
+  insert-replies : (into : List ℕ) (of : SetType) (body : Tree) (made : List (Plan × Stores)) (writes : List Write)
+      → IsCheckedOver types database (wanted_at_first statement.form) (insert into of body)
       → map row_writing made ≡ writings_of (insert into of body) writes → (insert_outcome into of database made).0 ≡ done (number_done (insert into of body) holdings writes)
   insert-replies into of body [] [] checked same = refl
   insert-replies into of body [] (write ∷ writes) checked same = absurd (cc)
@@ -203,8 +210,13 @@ module _ (types : List SetType) (statement : Statement) (database : Database) (h
       ap done (same-length (λ plan. row_writing (plan, [])) (λ (write : Write). (let w : RowWriting = record { identifiers = write.oid ∷ []; grown = []; stores = [] } in w)) plans writes
       (ok_same (map (λ plan. row_writing (plan, [])) plans) (writings_of (delete source condition) writes) is))
   replies (update source axes target body condition) plans writes selects checked is =
-      let (made, are_made, last) = bind_ok (stores_of_plans (update_store source.of) body plans) (λ made. Ok (map row_writing made)) (writings_of (update source axes target body condition) writes) is in
-      ap (λ r. reply_in (r >>= λ stores. Ok (done (length plans), with_changed source.collection (λ collection. with_arrays collection (with_updated source.of collection.arrays stores)) database))) are_made
+      let (made, are_made, last) = bind_ok (stores_of_plans (update_store source.of) body plans)
+      (λ made. Ok (map row_writing made)) (writings_of (update source axes target body condition) writes) is in
+      ap (λ r. reply_in (r >>= λ stores. Ok (
+        done (length plans),
+        with_changed source.collection
+            (λ collection. with_arrays collection (with_updated source.of collection.arrays stores)) database,
+      ))) are_made
       ∙ ap done (sym (stores-length (update_store source.of) body plans made are_made)
       ∙ same-length row_writing (writing_of source.of) made writes (ok_same (map row_writing made) (writings_of (update source axes target body condition) writes) last))
   replies (create name of) plans writes selects checked is = refl

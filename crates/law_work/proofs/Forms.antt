@@ -1,5 +1,6 @@
 -- What statements on one collection replace, form by form.
-use Rattle.std.proofs.Common.{◌≡◌, ◌+◌, ◌<◌, ◌≤◌, ◌==◌, ℕ, ℤ, Bool, true, false, cond, ◌&&◌, ◌||◌, eqb, arith, List, [], ◌∷◌, ◌++◌, length, map, filter, slice_get, All, Contains, Option, Some, None, option_map, refl, sym, ap, ◌∙◌, subst, ⊎_elim}
+use Rattle.std.proofs.Common.{◌≡◌, ◌+◌, ◌<◌, ◌≤◌, ◌==◌, ℕ, ℤ, Bool, true, false, cond, ◌&&◌, ◌||◌, eqb, arith, List, []}
+use Rattle.std.proofs.Common.{◌∷◌, ◌++◌, length, map, filter, slice_get, All, Contains, Option, Some, None, option_map, refl, sym, ap, ◌∙◌, subst, ⊎_elim}
 use Rattle.std.specs.BTreeMap.{insert_entry, is_at}
 use Rattle.std.specs.Cmp.{eq_by_cmp_equiv}
 use Rattle.std.specs.Cmp.Lexicographic.{slice_cmp}
@@ -36,7 +37,8 @@ use Rattle.law_effects.proofs.Untouched.{differ, look_at-same, with_collection-o
 use Rattle.law_locks.proofs.EffectsShown.{collection_found, look_at-in, look_in}
 use Rattle.spec_expressions.specs.Database.{Array, Collection as CollectionOf, Database, collection_of}
 use Rattle.spec_statements.specs.Agree.{Seen, domain_seen, extents_in, lies_at, stored_in_tile, tile_seen}
-use Rattle.spec_statements.specs.Effects.{Stores, empty_collection, no_array, number_after, with_arrays, with_changed, with_changed_if_any, with_collection, with_inserted, without_arrays, without_collection, written_array}
+use Rattle.spec_statements.specs.Effects.{Stores, empty_collection, no_array, number_after, with_arrays, with_changed}
+use Rattle.spec_statements.specs.Effects.{with_changed_if_any, with_collection, with_inserted, without_arrays, without_collection, written_array}
 use Rattle.spec_statements.specs.Locks.{collection_in}
 use Rattle.spec_statements.specs.Validity.{IsValidFor}
 use Rattle.spec_views.specs.Holdings.{Holding, collection_held, domain_held, holding_at, holding_in, holding_of}

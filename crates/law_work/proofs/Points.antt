@@ -71,7 +71,7 @@ same_lists ps qs sorted also within back =
 
 -- ---- the points of a tile
 
-each_passes : (test : List ℤ → Bool) (ps : List (List ℤ)) → AllByRecursion (λ p. test p ≡ true) (filter test ps)
+pub each_passes : (test : List ℤ → Bool) (ps : List (List ℤ)) → AllByRecursion (λ p. test p ≡ true) (filter test ps)
 each_passes test [] = tt
 each_passes test (p ∷ ps) = at (test p) refl (each_passes test ps)
   where

@@ -1,10 +1,11 @@
 -- A statement's writes, over a database that was seen.
-use Rattle.std.proofs.Common.{◌≡◌, ◌<◌, ◌≤◌, ℕ, ℤ, Bool, true, false, cond, arith, List, [], ◌∷◌, ◌++◌, length, map, filter, flat_map, Contains, Option, Some, option_map, Result, Ok, Less, Equal, refl, sym, ap, ◌∙◌, subst, inl, inr}
+use Rattle.std.proofs.Common.{◌≡◌, ◌<◌, ◌≤◌, ℕ, ℤ, Bool, true, false, cond, not, ◌&&◌, arith, List, [], ◌∷◌, ◌++◌, length}
+use Rattle.std.proofs.Common.{map, filter, flat_map, Contains, Option, Some, option_map, Result, Ok, Less, Equal, refl, sym, ap, ◌∙◌, subst, inl, inr}
 use Rattle.std.specs.List.{AllByRecursion, zip}
 use Rattle.std.specs.List.Sorted.{IsStrictlySortedBy}
 use Rattle.std.specs.Map.{keys_of}
 use Rattle.std.specs.Ordering.{is_eq, nat_cmp}
-use Rattle.std.proofs.lemmas.Bool.{false_from_ne_true}
+use Rattle.std.proofs.lemmas.Bool.{and_parts, false_from_ne_true}
 use Rattle.std.proofs.lemmas.List.{length-map}
 use Rattle.std.proofs.lemmas.Cmp.{nat_cmp_total, tied_itself}
 use Rattle.std.proofs.lemmas.List.Elements.{All-from_recursion, Contains-append_cases, Contains-append_left, Contains-append_right}
@@ -12,11 +13,11 @@ use Rattle.ras_domain.specs.declared.lock.LockName.{LockName}
 use Rattle.ras_domain.specs.declared.lock.LockName.TheVariants.{Collection, Domain}
 use Rattle.ras_domain.specs.declared.lock.Mode.TheVariants.{Exclusive}
 use Rattle.ras_domain.specs.Boxes.{is_same_box}
-use Rattle.ras_domain.specs.Region.{IsIn, IsOrdered, points_of}
+use Rattle.ras_domain.specs.Region.{IsIn, IsOrdered, is_in, points_of}
 use Rattle.ras_domain.proofs.BoxTests.{LiesIn-lies_in, each_point, length-LiesIn}
 use Rattle.ras_domain.proofs.PointSets.{IsIn-lows}
 use Rattle.ras_domain.proofs.Points.{Contains-IsIn}
-use Rattle.ras_grid.specs.Grid.{places_meeting, tile_place}
+use Rattle.ras_grid.specs.Grid.{place_box, places_meeting, tile_in, tile_place}
 use Rattle.ras_grid.proofs.Tiles.{IsIn-grid_box, length-tile_place, places_meeting-Meets}
 use Rattle.ras_store.specs.declared.write.Write.{Write}
 use Rattle.ras_syntax.specs.declared.span.Span.{Span}
@@ -34,6 +35,7 @@ use Rattle.law_effects.proofs.Written.{IsFit}
 use Rattle.law_lists.proofs.Choices.{ok_keeps}
 use Rattle.law_lists.proofs.Each.{each_both, each_contained, each_itself, each_weaker}
 use Rattle.law_lists.proofs.Elements.{Contains-flat_map, Contains-here, Contains-map, Contains-there}
+use Rattle.law_views.proofs.Ascending.{Contains-filter, Contains-from_filter}
 use Rattle.law_views.proofs.Seen.{before_parents}
 use Rattle.spec_expressions.specs.Database.{Array, Collection as CollectionOf, Database, Member, array_of}
 use Rattle.spec_expressions.specs.SetTypes.{IsSetType}
@@ -48,11 +50,11 @@ use Rattle.spec_statements.specs.Statement.{Request, StatementTree, update}
 use Rattle.spec_statements.specs.Validity.{IsArrayOf}
 use Rattle.spec_views.specs.Holdings.{Holdings, IsSeenBy, collection_held, domain_held, holding_at, holding_in, holding_of, lists_before}
 use Rattle.spec_views.specs.Writings.{RowWriting, row_writing}
-use Rattle.law_work.specs.ChangesFor.{held_domain, places_changed, tile_name}
+use Rattle.law_work.specs.ChangesFor.{held_domain, is_grown_place, places_changed, tile_name}
 use Rattle.law_work.specs.Sound.{IsSoundWrite}
 use Rattle.law_work.specs.Writes.{numbers_stored, stores_of_write}
 use Rattle.law_work.proofs.Identifiers.{same_numbers}
-use Rattle.law_work.proofs.Points.{tile_of}
+use Rattle.law_work.proofs.Points.{each_passes, tile_of}
 use Rattle.law_work.proofs.Updates.{AreApart, AreOthers, IsRow, writing_of}
 
 -- ---- lists
@@ -235,12 +237,24 @@ module _ (types : List SetType) (source : CheckedSource) (axes : Option Axes) (t
           → Contains (member_locks d.member d.update.writing) (tile_name source.collection write.oid place, Exclusive)
       met_locked place has =
           let meets = (places_meeting-Meets source.of.extents.items write.region place type.some_extent sound.region sound.axes).0 has in
-          tile_locked place (met_place source.of.extents.items place meets.point d.update.writing.region type.some_extent (All-from_recursion IsOrdered d.update.writing.region d.update.ordered) plan_long meets.long
-          meets.in_tile (point_written meets.point meets.in_box))
+          tile_locked place (met_place source.of.extents.items place meets.point d.update.writing.region type.some_extent
+          (All-from_recursion IsOrdered d.update.writing.region d.update.ordered) plan_long meets.long meets.in_tile (point_written meets.point meets.in_box))
+
+      -- a tile that grows is one whose box changes
+      changes : (place : List ℤ) → Contains (filter (is_grown_place source.of.extents.items d.member.array.domain write.grown write.region) (places_meeting source.of.extents.items write.grown)) place
+          → Contains (changed_tiles source.of.extents.items d.member.array.domain write.grown) place
+      changes place has =
+          let test : List ℤ → Bool = is_grown_place source.of.extents.items d.member.array.domain write.grown write.region in
+          let places : List (List ℤ) = places_meeting source.of.extents.items write.grown in
+          let grows : test place ≡ true = each_contained (λ q. test q ≡ true) (filter test places) place (each_passes test places) has in
+          Contains-filter (λ q. not (is_same_box (tile_in source.of.extents.items d.member.array.domain q) (tile_in source.of.extents.items write.grown q))) places place
+          (Contains-from_filter test places place has)
+          (and_parts (not (is_same_box (tile_in source.of.extents.items d.member.array.domain place) (tile_in source.of.extents.items write.grown place)))
+          (not (is_in place (place_box source.of.extents.items write.region))) grows).0
 
       -- a tile whose box changes
       grown_locked : (place : List ℤ) (b : Bool) → is_same_box d.member.array.domain write.grown ≡ b
-          → Contains (cond b [] (changed_tiles source.of.extents.items d.member.array.domain write.grown)) place
+          → Contains (cond b [] (filter (is_grown_place source.of.extents.items d.member.array.domain write.grown write.region) (places_meeting source.of.extents.items write.grown))) place
           → Contains (member_locks d.member d.update.writing) (tile_name source.collection write.oid place, Exclusive)
       grown_locked place true same has = absurd (omega (arith, has.1))
       grown_locked place false differs has =
@@ -248,7 +262,7 @@ module _ (types : List SetType) (source : CheckedSource) (axes : Option Axes) (t
           let tiles : List Lock = map (tile_lock source.collection d.member.oid Exclusive) (changed_tiles (extents_of d.member) d.member.array.domain d.update.writing.grown) in
           let there : Contains (changed_tiles (extents_of d.member) d.member.array.domain d.update.writing.grown) place =
           subst (λ g. Contains (changed_tiles (extents_of d.member) d.member.array.domain g) place) (sym is_of.grown)
-          (subst (λ (t : SetType). Contains (changed_tiles t.extents.items d.member.array.domain write.grown) place) (sym d.of_is) has) in
+          (subst (λ (t : SetType). Contains (changed_tiles t.extents.items d.member.array.domain write.grown) place) (sym d.of_is) (changes place has)) in
           let in_grown : Contains (grown_locks source.collection d.member d.update.writing) lock =
           subst (λ b. Contains (cond b [] ((Domain source.collection d.member.oid, Exclusive) ∷ tiles)) lock) (sym (ap (is_same_box d.member.array.domain) is_of.grown ∙ differs))
           (Contains-there lock (Domain source.collection d.member.oid, Exclusive) tiles
@@ -261,7 +275,8 @@ module _ (types : List SetType) (source : CheckedSource) (axes : Option Axes) (t
           → Contains (member_locks d.member d.update.writing) (tile_name source.collection write.oid place, Exclusive)
       changed_locked place has =
           elim (Contains-append_cases (places_meeting source.of.extents.items write.region)
-          (cond (is_same_box d.member.array.domain write.grown) [] (changed_tiles source.of.extents.items d.member.array.domain write.grown)) place has) [
+          (cond (is_same_box d.member.array.domain write.grown) []
+          (filter (is_grown_place source.of.extents.items d.member.array.domain write.grown write.region) (places_meeting source.of.extents.items write.grown))) place has) [
             | inl met ↦ met_locked place met
             | inr grown ↦ grown_locked place (is_same_box d.member.array.domain write.grown) refl grown
           ]

@@ -1,5 +1,6 @@
 -- What an update replaces, row by row.
-use Rattle.std.proofs.Common.{◌≡◌, ◌==◌, ℕ, ℤ, Bool, true, false, cond, not, ◌&&◌, arith, List, [], ◌∷◌, ◌++◌, length, map, filter, flat_map, slice_get, All, Contains, Option, Some, None, option_map, refl, sym, ap, ◌∙◌, subst, inl, inr}
+use Rattle.std.proofs.Common.{◌≡◌, ◌==◌, ℕ, ℤ, Bool, true, false, cond, not, ◌&&◌, arith, List, [], ◌∷◌, ◌++◌, length}
+use Rattle.std.proofs.Common.{map, filter, flat_map, slice_get, All, Contains, Option, Some, None, option_map, refl, sym, ap, ◌∙◌, subst, inl, inr}
 use Rattle.std.specs.BTreeMap.{insert_entry}
 use Rattle.std.specs.Cmp.{IsTotalOrder, eq_by_cmp_equiv}
 use Rattle.std.specs.Cmp.Lexicographic.{slice_cmp}
@@ -39,12 +40,11 @@ use Rattle.spec_expressions.specs.SetTypes.{IsSetType}
 use Rattle.spec_expressions.specs.Shape.{Box}
 use Rattle.spec_statements.specs.Agree.{Seen, domain_seen, extents_in, lies_at, stored_in_tile, tile_seen}
 use Rattle.spec_statements.specs.Effects.{Stores, option_flat, store_for, update_store, with_arrays, with_changed, with_changed_if_any, with_collection, written_array}
-use Rattle.spec_statements.specs.Phases.{changed_tiles}
 use Rattle.spec_statements.specs.Validity.{IsArrayOf}
 use Rattle.spec_views.specs.Holdings.{Holding, Holdings, domain_held, collection_held, holding_in, holding_of}
 use Rattle.spec_views.specs.Work.{RewritesTo}
 use Rattle.spec_views.specs.Writings.{RowWriting, with_rewritten, with_writings}
-use Rattle.law_work.specs.ChangesFor.{held_domain, domain_replaced, places_changed, row_replaced, tile_after, tile_name}
+use Rattle.law_work.specs.ChangesFor.{is_grown_place, held_domain, domain_replaced, places_changed, row_replaced, tile_after, tile_name}
 use Rattle.law_work.specs.Replacements.{Replacement, replaced_by_all}
 use Rattle.law_work.specs.Writes.{stores_of_write}
 use Rattle.law_work.proofs.Forms.{AreIn, held_at, held_in, is_listed_place, listed-place, place-listed, rewrites-one, tiles-collection, tiles-domain, tiles-in, tiles-tile, tiles_replaced, under_all}
@@ -103,30 +103,48 @@ module _ (types : List SetType) (name : List ℕ) (of : SetType) (holdings : Hol
   abbrev stores_in : Write → Stores
   stores_in write = stores_of_write (update_store of) write
 
+  abbrev es : List ℕ
+  es = of.extents.items
+
+  -- the places whose tiles an update replaces, and those that it only makes greater
+  abbrev changed_list : Box → Write → List (List ℤ)
+  changed_list old write = places_changed of.extents.items old write.grown write.region
+
+  abbrev grown_list : Box → Write → List (List ℤ)
+  grown_list old write = filter (is_grown_place of.extents.items old write.grown write.region) (places_meeting of.extents.items write.grown)
+
+  -- what is held of a tile of an array
+  abbrev tile_held_in : ArrayVec ℤ → Array → Option Holding
+  tile_held_in place array = tile_of of.extents.items place.items c.set_type array
+
+  -- the boxes of a tile before and after
+  abbrev box_before : List ℤ → Box → Box
+  box_before place old = tile_in of.extents.items old place
+
   -- a write of an array that stood in the collection, which is held where it is written
   pub record IsRow (write : Write) : Type 0 where
     pub array : Array
     pub stood : Contains c.arrays (write.oid, array)
     pub is_array : IsArrayOf of array
-    pub grown_long : length write.grown ≡ length of.extents.items
+    pub grown_long : length write.grown ≡ length es
     pub grown_ordered : All IsOrdered write.grown
-    pub region_long : length write.region ≡ length of.extents.items
+    pub region_long : length write.region ≡ length es
     pub region_ordered : All IsOrdered write.region
     pub covers : (p : List ℤ) → IsIn p array.domain → IsIn p write.grown
-    pub within : AllByRecursion (λ entry. IsIn entry.0 write.region) (stores_of_write (update_store of) write)
+    pub within : AllByRecursion (λ entry. IsIn entry.0 write.region) (stores_in write)
     pub domain_is : holdings (Domain name write.oid) ≡ Some (domain_held array.domain)
-    pub tiles_are : (place : List ℤ) → Contains (places_changed of.extents.items array.domain write.grown write.region) place
-        → holdings (tile_name name write.oid place) ≡ tile_of of.extents.items place c.set_type array
+    pub tiles_are : (place : List ℤ) → Contains (places_changed es array.domain write.grown write.region) place
+        → holdings (tile_name name write.oid place) ≡ tile_of es place c.set_type array
 
   -- the tile that is put at a place
   abbrev tile_at : Write → List ℤ → Option Holding
   tile_at write place =
-      tile_after of (holdings (tile_name name write.oid place)) (stores_of_write (update_store of) write) (tile_in of.extents.items write.grown place)
+      tile_after of (holdings (tile_name name write.oid place)) (stores_in write) (tile_in es write.grown place)
 
   -- what a row replaces, over the array's domain
   abbrev row_over : Box → Write → List Replacement
   row_over old write =
-      domain_replaced name write.oid old write.grown ++ tiles_replaced name write.oid (tile_at write) (places_changed of.extents.items old write.grown write.region)
+      domain_replaced name write.oid old write.grown ++ tiles_replaced name write.oid (tile_at write) (changed_list old write)
 
   domain-in : (old grown : Box) (oid : ℕ) → AreIn name (domain_replaced name oid old grown)
   domain-in old grown oid = at (is_same_box old grown)
@@ -138,7 +156,7 @@ module _ (types : List SetType) (name : List ℕ) (of : SetType) (holdings : Hol
   pub row-in : (write : Write) → AreIn name (row_replaced of name holdings write)
   row-in write =
       in-append name (domain_replaced name write.oid (held_domain (holdings (Domain name write.oid))) write.grown) _ (domain-in (held_domain (holdings (Domain name write.oid))) write.grown write.oid)
-      (tiles-in name write.oid (tile_at write) (places_changed of.extents.items (held_domain (holdings (Domain name write.oid))) write.grown write.region))
+      (tiles-in name write.oid (tile_at write) (places_changed es (held_domain (holdings (Domain name write.oid))) write.grown write.region))
 
   -- ---- of what isn't the row's
 
@@ -156,7 +174,8 @@ module _ (types : List SetType) (name : List ℕ) (of : SetType) (holdings : Hol
       at true = refl
       at false = refl
 
-  domain-other : (old grown : Box) (oid : ℕ) (n : List ℕ) (id : ℕ) (before : Option Holding) → is_eq (nat_cmp oid id) ≡ false → under_all (domain_replaced name oid old grown) (Domain n id) before ≡ before
+  domain-other : (old grown : Box) (oid : ℕ) (n : List ℕ) (id : ℕ) (before : Option Holding) → is_eq (nat_cmp oid id) ≡ false
+      → under_all (domain_replaced name oid old grown) (Domain n id) before ≡ before
   domain-other old grown oid n id before apart = at (is_same_box old grown)
     where
       at : (b : Bool) → under_all (cond b [] ((Domain name oid, Some (domain_held grown)) ∷ [])) (Domain n id) before ≡ before
@@ -165,30 +184,32 @@ module _ (types : List SetType) (name : List ℕ) (of : SetType) (holdings : Hol
 
   pub row-collection : (old : Box) (write : Write) (n : List ℕ) (before : Option Holding) → under_all (row_over old write) (Collection n) before ≡ before
   row-collection old write n before =
-      under-append (domain_replaced name write.oid old write.grown) (tiles_replaced name write.oid (tile_at write) (places_changed of.extents.items old write.grown write.region)) (Collection n) before
-      ∙ tiles-collection name write.oid (tile_at write) (places_changed of.extents.items old write.grown write.region) n _
+      under-append (domain_replaced name write.oid old write.grown) (tiles_replaced name write.oid (tile_at write) (changed_list old write)) (Collection n) before
+      ∙ tiles-collection name write.oid (tile_at write) (changed_list old write) n _
       ∙ domain-collection old write.grown write.oid n before
 
   pub row-other : (old : Box) (write : Write) (id : ℕ) (lock : LockName) (before : Option Holding) → IsOfArray id lock → is_eq (nat_cmp write.oid id) ≡ false
       → under_all (row_over old write) lock before ≡ before
   row-other old write id lock before (domain_of n) apart =
-      under-append (domain_replaced name write.oid old write.grown) (tiles_replaced name write.oid (tile_at write) (places_changed of.extents.items old write.grown write.region)) (Domain n id) before
-      ∙ tiles-domain name write.oid (tile_at write) (places_changed of.extents.items old write.grown write.region) n id _
+      under-append (domain_replaced name write.oid old write.grown) (tiles_replaced name write.oid (tile_at write) (changed_list old write)) (Domain n id) before
+      ∙ tiles-domain name write.oid (tile_at write) (changed_list old write) n id _
       ∙ domain-other old write.grown write.oid n id before apart
   row-other old write id lock before (tile_at_place n place) apart =
-      under-append (domain_replaced name write.oid old write.grown) (tiles_replaced name write.oid (tile_at write) (places_changed of.extents.items old write.grown write.region)) (Tile n id place) before
-      ∙ tiles-tile name write.oid (tile_at write) (places_changed of.extents.items old write.grown write.region) n id place _
-      ∙ ap (λ b. cond (b && is_listed_place place.items (places_changed of.extents.items old write.grown write.region)) (tile_at write place.items)
+      under-append (domain_replaced name write.oid old write.grown) (tiles_replaced name write.oid (tile_at write) (changed_list old write)) (Tile n id place) before
+      ∙ tiles-tile name write.oid (tile_at write) (changed_list old write) n id place _
+      ∙ ap (λ b. cond (b && is_listed_place place.items (changed_list old write)) (tile_at write place.items)
       (under_all (domain_replaced name write.oid old write.grown) (Tile n id place) before)) apart
       ∙ domain-tile old write.grown write.oid n id place before
 
   -- ---- of the row's own array
 
-  own-domain : (write : Write) (row : IsRow write) (n : List ℕ) → Some (domain_held write.grown) ≡ under_all (row_over row.array.domain write) (Domain n write.oid) (Some (domain_held row.array.domain))
+  own-domain : (write : Write) (row : IsRow write) (n : List ℕ)
+      → Some (domain_held write.grown) ≡ under_all (row_over row.array.domain write) (Domain n write.oid) (Some (domain_held row.array.domain))
   own-domain write row n =
       at (is_same_box row.array.domain write.grown) refl
-      ∙ sym (under-append (domain_replaced name write.oid row.array.domain write.grown) (tiles_replaced name write.oid (tile_at write) (places_changed of.extents.items row.array.domain write.grown write.region)) (Domain n write.oid) (Some (domain_held row.array.domain))
-      ∙ tiles-domain name write.oid (tile_at write) (places_changed of.extents.items row.array.domain write.grown write.region) n write.oid _)
+      ∙ sym (under-append (domain_replaced name write.oid row.array.domain write.grown)
+      (tiles_replaced name write.oid (tile_at write) (changed_list row.array.domain write)) (Domain n write.oid) (Some (domain_held row.array.domain))
+      ∙ tiles-domain name write.oid (tile_at write) (changed_list row.array.domain write) n write.oid _)
     where
       at : (b : Bool) → is_same_box row.array.domain write.grown ≡ b
           → Some (domain_held write.grown) ≡ under_all (cond b [] ((Domain name write.oid, Some (domain_held write.grown)) ∷ [])) (Domain n write.oid) (Some (domain_held row.array.domain))
@@ -196,90 +217,101 @@ module _ (types : List SetType) (name : List ℕ) (of : SetType) (holdings : Hol
       at false apart = sym (ap (λ b. cond b (Some (domain_held write.grown)) (Some (domain_held row.array.domain))) (compared_same write.oid write.oid refl))
 
   -- a listed place has as many coordinates as there are extents
-  met_long : (axes : Box) (place : List ℤ) → length axes ≡ length of.extents.items → Contains (places_meeting of.extents.items axes) place → length place ≡ length of.extents.items
+  met_long : (axes : Box) (place : List ℤ) → length axes ≡ length es → Contains (places_meeting es axes) place → length place ≡ length es
   met_long axes place long has =
-      length-from_IsIn place (place_box of.extents.items axes) ((Contains-IsIn (place_box of.extents.items axes) place).0 has) ∙ length-place_box of.extents.items axes long
+      length-from_IsIn place (place_box es axes) ((Contains-IsIn (place_box es axes) place).0 has) ∙ length-place_box es axes long
 
   -- the place of a point's tile is listed
-  point_met : (axes : Box) (place p : List ℤ) → All IsOrdered axes → length axes ≡ length of.extents.items → lies_at of.extents.items place p ≡ true → IsIn p axes
-      → Contains (places_meeting of.extents.items axes) place
+  point_met : (axes : Box) (place p : List ℤ) → All IsOrdered axes → length axes ≡ length es → lies_at es place p ≡ true → IsIn p axes
+      → Contains (places_meeting es axes) place
   point_met axes place p ordered long passes inside =
-      let parts = and_parts (length place == length of.extents.items) (is_in p (grid_box of.extents.items place)) passes in
-      met_place of.extents.items place p axes type.some_extent ordered long (eqb-true (length place) (length of.extents.items) parts.0)
-      ((IsIn-is_in p (grid_box of.extents.items place)).0 parts.1) inside
+      let parts = and_parts (length place == length es) (is_in p (grid_box es place)) passes in
+      met_place es place p axes type.some_extent ordered long (eqb-true (length place) (length es) parts.0)
+      ((IsIn-is_in p (grid_box es place)).0 parts.1) inside
 
-  changed_long : (write : Write) (row : IsRow write) (place : List ℤ) → Contains (places_changed of.extents.items row.array.domain write.grown write.region) place
-      → length place ≡ length of.extents.items
+  changed_long : (write : Write) (row : IsRow write) (place : List ℤ) → Contains (changed_list row.array.domain write) place
+      → length place ≡ length es
   changed_long write row place has =
-      elim (Contains-append_cases (places_meeting of.extents.items write.region) (cond (is_same_box row.array.domain write.grown) [] (changed_tiles of.extents.items row.array.domain write.grown)) place has) [
+      elim (Contains-append_cases (places_meeting es write.region) (cond (is_same_box row.array.domain write.grown) [] (grown_list row.array.domain write)) place has) [
         | inl met ↦ met_long write.region place row.region_long met
         | inr changed ↦ at (is_same_box row.array.domain write.grown) changed
       ]
     where
-      at : (b : Bool) → Contains (cond b [] (changed_tiles of.extents.items row.array.domain write.grown)) place → length place ≡ length of.extents.items
+      at : (b : Bool) → Contains (cond b [] (grown_list row.array.domain write)) place → length place ≡ length es
       at true changed = absurd (omega (arith, changed.1))
       at false changed =
           met_long write.grown place row.grown_long
-          (Contains-from_filter (λ q. not (is_same_box (tile_in of.extents.items row.array.domain q) (tile_in of.extents.items write.grown q))) (places_meeting of.extents.items write.grown) place changed)
+          (Contains-from_filter (is_grown_place es row.array.domain write.grown write.region) (places_meeting es write.grown) place changed)
 
   -- where a place isn't listed, the array has the same points there afterwards
   same_points_there : (write : Write) (row : IsRow write) (place : List ℤ)
-      → (Contains (places_changed of.extents.items row.array.domain write.grown write.region) place → ⊥)
-      → filter (lies_at of.extents.items place) (points_of write.grown) ≡ filter (lies_at of.extents.items place) (points_of row.array.domain)
+      → (Contains (changed_list row.array.domain write) place → ⊥)
+      → filter (lies_at es place) (points_of write.grown) ≡ filter (lies_at es place) (points_of row.array.domain)
   same_points_there write row place unlisted = at (is_same_box row.array.domain write.grown) refl unlisted
     where
-      none_there : is_listed_place place (places_meeting of.extents.items write.grown) ≡ false → (axes : Box) → ((p : List ℤ) → IsIn p axes → IsIn p write.grown)
-          → filter (lies_at of.extents.items place) (points_of axes) ≡ []
+      none_there : is_listed_place place (places_meeting es write.grown) ≡ false → (axes : Box) → ((p : List ℤ) → IsIn p axes → IsIn p write.grown)
+          → filter (lies_at es place) (points_of axes) ≡ []
       none_there unmet axes inside =
-          filter-no (lies_at of.extents.items place) (points_of axes)
-          (each_weaker (λ p. IsIn p axes) (λ p. lies_at of.extents.items place p ≡ false)
-          (λ p is. false_from_ne_true (lies_at of.extents.items place p) (λ passes.
+          filter-no (lies_at es place) (points_of axes)
+          (each_weaker (λ p. IsIn p axes) (λ p. lies_at es place p ≡ false)
+          (λ p is. false_from_ne_true (lies_at es place p) (λ passes.
           let has = point_met write.grown place p row.grown_ordered row.grown_long passes (inside p is) in
-          let clash : true ≡ false = sym (place-listed place (places_meeting of.extents.items write.grown) has) ∙ unmet in cc)) (points_of axes) (each_point axes))
+          let clash : true ≡ false = sym (place-listed place (places_meeting es write.grown) has) ∙ unmet in cc)) (points_of axes) (each_point axes))
 
-      met : (b : Bool) → is_listed_place place (places_meeting of.extents.items write.grown) ≡ b → (Contains (changed_tiles of.extents.items row.array.domain write.grown) place → ⊥)
-          → filter (lies_at of.extents.items place) (points_of write.grown) ≡ filter (lies_at of.extents.items place) (points_of row.array.domain)
-      met false unmet free = none_there unmet write.grown (λ p is. is) ∙ sym (none_there unmet row.array.domain row.covers)
-      met true is free =
-          let has = listed-place place (places_meeting of.extents.items write.grown) is in
+      met : (b : Bool) → is_listed_place place (places_meeting es write.grown) ≡ b → (Contains (grown_list row.array.domain write) place → ⊥)
+          → is_in place (place_box es write.region) ≡ false → filter (lies_at es place) (points_of write.grown) ≡ filter (lies_at es place) (points_of row.array.domain)
+      met false unmet free apart = none_there unmet write.grown (λ p is. is) ∙ sym (none_there unmet row.array.domain row.covers)
+      met true is free apart =
+          let has = listed-place place (places_meeting es write.grown) is in
           let long = met_long write.grown place row.grown_long has in
-          let same : tile_in of.extents.items row.array.domain place ≡ tile_in of.extents.items write.grown place = boxes (is_same_box (tile_in of.extents.items row.array.domain place) (tile_in of.extents.items write.grown place)) refl has free in
-          points-in_tile of.extents.items place write.grown long row.grown_long ∙ ap points_of (sym same) ∙ sym (points-in_tile of.extents.items place row.array.domain long (row.is_array.axes ∙ sym type.each_extent))
+          let same : tile_in es row.array.domain place ≡ tile_in es write.grown place = boxes (is_same_box (tile_in es row.array.domain place) (tile_in es write.grown place)) refl has free apart in
+          points-in_tile es place write.grown long row.grown_long ∙ ap points_of (sym same) ∙ sym (points-in_tile es place row.array.domain long (row.is_array.axes ∙ sym type.each_extent))
         where
-          boxes : (b : Bool) → is_same_box (tile_in of.extents.items row.array.domain place) (tile_in of.extents.items write.grown place) ≡ b → Contains (places_meeting of.extents.items write.grown) place
-              → (Contains (changed_tiles of.extents.items row.array.domain write.grown) place → ⊥) → tile_in of.extents.items row.array.domain place ≡ tile_in of.extents.items write.grown place
-          boxes true is_same has free = same-is_same_box (tile_in of.extents.items row.array.domain place) (tile_in of.extents.items write.grown place) is_same
-          boxes false apart has free = absurd (free (Contains-filter (λ q. not (is_same_box (tile_in of.extents.items row.array.domain q) (tile_in of.extents.items write.grown q))) (places_meeting of.extents.items write.grown) place has (ap not apart)))
+          boxes : (b : Bool) → is_same_box (tile_in es row.array.domain place) (tile_in es write.grown place) ≡ b → Contains (places_meeting es write.grown) place
+              → (Contains (grown_list row.array.domain write) place → ⊥)
+              → is_in place (place_box es write.region) ≡ false → tile_in es row.array.domain place ≡ tile_in es write.grown place
+          boxes true is_same has free unmet = same-is_same_box (tile_in es row.array.domain place) (tile_in es write.grown place) is_same
+          boxes false apart has free unmet =
+              absurd (free (Contains-filter (is_grown_place es row.array.domain write.grown write.region) (places_meeting es write.grown) place has
+              (λ i. not (apart i) && not (unmet i))))
 
       at : (b : Bool) → is_same_box row.array.domain write.grown ≡ b
-          → (Contains (places_meeting of.extents.items write.region ++ (cond b [] (changed_tiles of.extents.items row.array.domain write.grown))) place → ⊥)
-          → filter (lies_at of.extents.items place) (points_of write.grown) ≡ filter (lies_at of.extents.items place) (points_of row.array.domain)
-      at true same free = ap (λ d. filter (lies_at of.extents.items place) (points_of d)) (sym (same-is_same_box row.array.domain write.grown same))
+          → (Contains (places_meeting es write.region ++ (cond b [] (grown_list row.array.domain write))) place → ⊥)
+          → filter (lies_at es place) (points_of write.grown) ≡ filter (lies_at es place) (points_of row.array.domain)
+      at true same free = ap (λ d. filter (lies_at es place) (points_of d)) (sym (same-is_same_box row.array.domain write.grown same))
       at false apart free =
-          met (is_listed_place place (places_meeting of.extents.items write.grown)) refl (λ has. free (Contains-append_right (places_meeting of.extents.items write.region) (changed_tiles of.extents.items row.array.domain write.grown) place has))
+          met (is_listed_place place (places_meeting es write.grown)) refl
+          (λ has. free (Contains-append_right (places_meeting es write.region) (grown_list row.array.domain write) place has))
+          (false_from_ne_true (is_in place (place_box es write.region)) (λ inside.
+          free (Contains-append_left (places_meeting es write.region) (grown_list row.array.domain write) place
+          ((Contains-IsIn (place_box es write.region) place).1 ((IsIn-is_in place (place_box es write.region)).0 inside)))))
 
   own-tile : (write : Write) (row : IsRow write) (n : List ℕ) (place : ArrayVec ℤ)
-      → tile_of of.extents.items place.items c.set_type (written_array of row.array write.grown (stores_of_write (update_store of) write))
-      ≡ under_all (row_over row.array.domain write) (Tile n write.oid place) (tile_of of.extents.items place.items c.set_type row.array)
+      → tile_of es place.items c.set_type (written_array of row.array write.grown (stores_in write))
+      ≡ under_all (row_over row.array.domain write) (Tile n write.oid place) (tile_held_in place row.array)
   own-tile write row n place =
-      at (is_listed_place place.items (places_changed of.extents.items row.array.domain write.grown write.region)) refl
-      ∙ sym (under-append (domain_replaced name write.oid row.array.domain write.grown) (tiles_replaced name write.oid (tile_at write) (places_changed of.extents.items row.array.domain write.grown write.region)) (Tile n write.oid place) (tile_of of.extents.items place.items c.set_type row.array)
-      ∙ tiles-tile name write.oid (tile_at write) (places_changed of.extents.items row.array.domain write.grown write.region) n write.oid place _
-      ∙ ap (λ b. cond (b && is_listed_place place.items (places_changed of.extents.items row.array.domain write.grown write.region)) (tile_at write place.items)
-      (under_all (domain_replaced name write.oid row.array.domain write.grown) (Tile n write.oid place) (tile_of of.extents.items place.items c.set_type row.array))) (compared_same write.oid write.oid refl)
-      ∙ ap (cond (is_listed_place place.items (places_changed of.extents.items row.array.domain write.grown write.region)) (tile_at write place.items)) (domain-tile row.array.domain write.grown write.oid n write.oid place (tile_of of.extents.items place.items c.set_type row.array)))
+      at (is_listed_place place.items (changed_list row.array.domain write)) refl
+      ∙ sym (under-append (domain_replaced name write.oid row.array.domain write.grown)
+      (tiles_replaced name write.oid (tile_at write) (changed_list row.array.domain write)) (Tile n write.oid place) (tile_held_in place row.array)
+      ∙ tiles-tile name write.oid (tile_at write) (changed_list row.array.domain write) n write.oid place _
+      ∙ ap (λ b. cond (b && is_listed_place place.items (changed_list row.array.domain write)) (tile_at write place.items)
+      (under_all (domain_replaced name write.oid row.array.domain write.grown) (Tile n write.oid place) (tile_held_in place row.array))) (compared_same write.oid write.oid refl)
+      ∙ ap (cond (is_listed_place place.items (changed_list row.array.domain write)) (tile_at write place.items))
+      (domain-tile row.array.domain write.grown write.oid n write.oid place (tile_held_in place row.array)))
     where
-      at : (b : Bool) → is_listed_place place.items (places_changed of.extents.items row.array.domain write.grown write.region) ≡ b → tile_of of.extents.items place.items c.set_type (written_array of row.array write.grown (stores_of_write (update_store of) write)) ≡ cond b (tile_at write place.items) (tile_of of.extents.items place.items c.set_type row.array)
+      at : (b : Bool) → is_listed_place place.items (changed_list row.array.domain write) ≡ b
+          → tile_of es place.items c.set_type (written_array of row.array write.grown (stores_in write)) ≡ cond b (tile_at write place.items) (tile_held_in place row.array)
       at true listed =
-          let has = listed-place place.items (places_changed of.extents.items row.array.domain write.grown write.region) listed in
-          sym (tile-written of of.extents.items place.items row.array write.grown (stores_of_write (update_store of) write) c.set_type (changed_long write row place.items has) row.grown_long)
-          ∙ ap (λ held. tile_after of held (stores_of_write (update_store of) write) (tile_in of.extents.items write.grown place.items)) (sym (row.tiles_are place.items has))
+          let has = listed-place place.items (changed_list row.array.domain write) listed in
+          sym (tile-written of es place.items row.array write.grown (stores_in write) c.set_type (changed_long write row place.items has) row.grown_long)
+          ∙ ap (λ held. tile_after of held (stores_in write) (tile_in es write.grown place.items)) (sym (row.tiles_are place.items has))
       at false unlisted =
-          let free : Contains (places_changed of.extents.items row.array.domain write.grown write.region) place.items → ⊥ = λ has. let clash : true ≡ false = sym (place-listed place.items (places_changed of.extents.items row.array.domain write.grown write.region) has) ∙ unlisted in cc in
-          sym (tile-left of of.extents.items place.items row.array write.grown (stores_of_write (update_store of) write) c.set_type (same_points_there write row place.items free) row.is_array.each_point
+          let free : Contains (changed_list row.array.domain write) place.items → ⊥ = λ has. let clash : true ≡ false = sym
+          (place-listed place.items (changed_list row.array.domain write) has) ∙ unlisted in cc in
+          sym (tile-left of es place.items row.array write.grown (stores_in write) c.set_type (same_points_there write row place.items free) row.is_array.each_point
           (λ entry has passes. (
-            store_for-outside entry.0 write.region (stores_of_write (update_store of) write)
-                (λ inside. free (Contains-append_left (places_meeting of.extents.items write.region) _ place.items
+            store_for-outside entry.0 write.region (stores_in write)
+                (λ inside. free (Contains-append_left (places_meeting es write.region) _ place.items
                 (point_met write.region place.items entry.0 row.region_ordered row.region_long passes inside))) row.within,
             found_point row.array entry row.is_array.each_point has,
           )))
@@ -287,7 +319,7 @@ module _ (types : List SetType) (name : List ℕ) (of : SetType) (holdings : Hol
   -- ---- all rows
 
   abbrev written : (write : Write) → IsRow write → Array
-  written write row = written_array of row.array write.grown (stores_of_write (update_store of) write)
+  written write row = written_array of row.array write.grown (stores_in write)
 
   abbrev after_all : List (ℕ × Array) → List Write → List (ℕ × Array)
   after_all arrays writes = with_writings of c arrays (map (writing_of of) writes)
@@ -361,7 +393,8 @@ module _ (types : List SetType) (name : List ℕ) (of : SetType) (holdings : Hol
             let others : AreOthers id writes = subst (λ k. AreOthers k writes) e apart.0 in
             ap (λ o. holding_in (option_map show o))
             (ap (lookup (λ other. is_eq (nat_cmp id other))) (put write rows.0 arrays writes) ∙ lookup-stays writes (insert_entry nat_cmp arrays write.oid (written write rows.0)) id rows.1 others
-            ∙ subst (λ k. lookup (λ other. is_eq (nat_cmp k other)) (insert_entry nat_cmp arrays write.oid (written write rows.0)) ≡ Some (written write rows.0)) e (lookup-insert_entry nat_cmp exact_unsigned write.oid (written write rows.0) nat_cmp_total arrays))
+            ∙ subst (λ k. lookup (λ other. is_eq (nat_cmp k other)) (insert_entry nat_cmp arrays write.oid (written write rows.0)) ≡ Some (written write rows.0)) e
+            (lookup-insert_entry nat_cmp exact_unsigned write.oid (written write rows.0) nat_cmp_total arrays))
             ∙ each write rows.0 e
             ∙ ap (λ rs. under_all rs lock (holding_in (Some (show rows.0.array)))) (sym (over_held write rows.0))
             ∙ ap (λ o. under_all (row_replaced of name holdings write) lock (holding_in (option_map show o)))
@@ -392,7 +425,7 @@ module _ (types : List SetType) (name : List ℕ) (of : SetType) (holdings : Hol
     change writes collection = with_arrays collection (with_writings of collection collection.arrays (map (writing_of of) writes))
 
     -- what is seen of a tile of the collection's arrays
-    tile_is : (place : ArrayVec ℤ) (array : Array) → holding_of (stored_in_tile types c place.items array) ≡ tile_of of.extents.items place.items c.set_type array
+    tile_is : (place : ArrayVec ℤ) (array : Array) → holding_of (stored_in_tile types c place.items array) ≡ tile_of es place.items c.set_type array
     tile_is place array = ap (λ o. holding_of (tile_seen c.set_type (filter (λ entry. lies_at (extents_in o) place.items entry.0) array.stored))) named
 
     pub update-own : (writes : List Write) → AllByRecursion IsRow writes → AreApart writes → (lock : LockName)

@@ -1,17 +1,16 @@
 -- What a statement's writes replace, by what is held of the collection and of the arrays that it writes to.
-use Rattle.std.specs.Prelude.{ℕ, ◌+◌, ℤ, not, if◌then◌else◌, List, [], ◌∷◌, ◌++◌, map, filter, flat_map, length, Option, Some, None, nat_eq}
+use Rattle.std.specs.Prelude.{ℕ, ◌+◌, ℤ, Bool, not, ◌&&◌, if◌then◌else◌, List, [], ◌∷◌, ◌++◌, map, filter, flat_map, length, Option, Some, None, nat_eq}
 use Rattle.std.specs.List.{list_any}
 use Rattle.ras_domain.specs.declared.lock.LockName.{LockName}
 use Rattle.ras_domain.specs.declared.lock.LockName.TheVariants.{Collection, Domain, Tile}
 use Rattle.ras_domain.specs.Boxes.{is_same_box}
-use Rattle.ras_domain.specs.Region.{points_of}
-use Rattle.ras_grid.specs.Grid.{places_meeting, tile_in}
+use Rattle.ras_domain.specs.Region.{is_in, points_of}
+use Rattle.ras_grid.specs.Grid.{place_box, places_meeting, tile_in}
 use Rattle.ras_store.specs.declared.write.Write.{Write}
 use Rattle.ras_syntax.specs.declared.types.SetType.{SetType}
 use Rattle.spec_expressions.specs.Database.{Array}
 use Rattle.spec_expressions.specs.Shape.{Box}
 use Rattle.spec_statements.specs.Effects.{Stores, insert_store, number_after, update_store}
-use Rattle.spec_statements.specs.Phases.{changed_tiles}
 use Rattle.spec_statements.specs.Statement.{Request, select, insert, delete, update, create, drop}
 use Rattle.spec_views.specs.Holdings.{Holding, Holdings, collection_held, domain_held, tile_held}
 use Rattle.law_work.specs.Replacements.{Replacement}
@@ -50,9 +49,15 @@ held_domain other = []
 abbrev pub domain_replaced : List ℕ → ℕ → Box → Box → List Replacement
 domain_replaced name id old grown = if is_same_box old grown then [] else (Domain name id, Some (domain_held grown)) ∷ []
 
--- the places of the tiles that a region meets, and of those whose box changes where the domain grows
+-- the tile at a place has another box where the domain grows, and the region doesn't meet it
+abbrev pub is_grown_place : List ℕ → Box → Box → Box → List ℤ → Bool
+is_grown_place extents old grown region place =
+    not (is_same_box (tile_in extents old place) (tile_in extents grown place)) && not (is_in place (place_box extents region))
+
+-- the places of the tiles that a region meets, and then of the others whose box changes where the domain grows
 abbrev pub places_changed : List ℕ → Box → Box → Box → List (List ℤ)
-places_changed extents old grown region = places_meeting extents region ++ (if is_same_box old grown then [] else changed_tiles extents old grown)
+places_changed extents old grown region =
+    places_meeting extents region ++ (if is_same_box old grown then [] else filter (is_grown_place extents old grown region) (places_meeting extents grown))
 
 abbrev pub row_replaced : SetType → List ℕ → Holdings → Write → List Replacement
 row_replaced of name holdings write =

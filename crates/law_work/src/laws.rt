@@ -33,13 +33,16 @@ pub fn changes_are_their_replacements()
 /// What writes replace, by what was seen, is what the statement does to each database that was seen, and
 /// the number of the answer is its own.
 pub fn writes_are_the_effect()
-    ensures effect { (types : List SetType) (statement : Statement) (database : Database) (checked : Checked) (holdings : Holdings) (writes : List Write)
+    ensures effect { (types : List SetType) (statement : Statement) (database : Database) (checked : Checked)
+        (holdings : Holdings) (writes : List Write)
         → AreTypes types → is_too_long (first_list statement) ≡ false → checked_over types statement database ≡ Ok checked
         → IsSeenBy types holdings statement 5 database
         → written_by (statement_tree_of checked) database ≡ Ok (writings_of (statement_tree_of checked).request writes)
         → AreSound (statement_tree_of checked).request holdings writes
-        → RewritesTo types (replaced_by_all (changes_for (statement_tree_of checked).request holdings writes)) database (effect_of types statement database) }
-    ensures reply { (types : List SetType) (statement : Statement) (database : Database) (checked : Checked) (holdings : Holdings) (writes : List Write)
+        → RewritesTo types (replaced_by_all (changes_for (statement_tree_of checked).request holdings writes)) database
+        (effect_of types statement database) }
+    ensures reply { (types : List SetType) (statement : Statement) (database : Database) (checked : Checked)
+        (holdings : Holdings) (writes : List Write)
         → AreTypes types → is_too_long (first_list statement) ≡ false → checked_over types statement database ≡ Ok checked
         → IsSeenBy types holdings statement 5 database → is_select (statement_tree_of checked).request ≡ false
         → written_by (statement_tree_of checked) database ≡ Ok (writings_of (statement_tree_of checked).request writes)
@@ -71,6 +74,8 @@ pub fn views_are_rewritten()
 
 /// What is held of a database is, rewritten, a part of the database that is made of it.
 pub fn parts_stay_parts()
-    ensures { (types : List SetType) (changes : List Change) (holdings : Holdings) (before next : Database) → IsPartOf types holdings before
-        → RewritesTo types (rewrites_of changes) before next → IsPartOf types (λ name. rewrites_of changes name (holdings name)) next }
+    ensures { (types : List SetType) (changes : List Change) (holdings : Holdings) (before next : Database)
+        → IsPartOf types holdings before
+        → RewritesTo types (rewrites_of changes) before next
+        → IsPartOf types (λ name. rewrites_of changes name (holdings name)) next }
 {}

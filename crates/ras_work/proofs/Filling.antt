@@ -56,7 +56,8 @@ module _ (of : SetType) (rule : NullRule) (write : Write) (before : Option Holdi
       })
 
   -- all cells
-  pub filled-whole : (old tile : TileValue) → IsTile old → IsFilledUpTo of rule write before (length (points_of old.region)) old tile → (tile.cells ≡ map (number_written of rule write before) (points_of old.region)) × All (AreInRange (atoms_of of.cell)) tile.cells
+  pub filled-whole : (old tile : TileValue) → IsTile old → IsFilledUpTo of rule write before (length (points_of old.region)) old tile
+      → (tile.cells ≡ map (number_written of rule write before) (points_of old.region)) × All (AreInRange (atoms_of of.cell)) tile.cells
   filled-whole old tile is_tile filled =
       let long : length tile.cells ≤ length (points_of old.region) = omega (arith, filled.long, is_tile.each_point) in
       let whole : take (length (points_of old.region)) tile.cells ≡ tile.cells = take_all _ tile.cells long in

@@ -12,7 +12,8 @@ unfolding IsStrictlySortedBy
 sorted-filter test [] sorted = tt
 sorted-filter test (k ∷ ks) sorted = at (test k) (each_filter (λ q. nat_cmp k q ≡ Less) test ks sorted.0) (sorted-filter test ks sorted.1)
   where
-    at : (b : Bool) → AllByRecursion (λ q. nat_cmp k q ≡ Less) (filter test ks) → IsStrictlySortedBy nat_cmp (filter test ks) → IsStrictlySortedBy nat_cmp (cond b (k ∷ filter test ks) (filter test ks))
+    at : (b : Bool) → AllByRecursion (λ q. nat_cmp k q ≡ Less) (filter test ks) → IsStrictlySortedBy nat_cmp (filter test ks)
+        → IsStrictlySortedBy nat_cmp (cond b (k ∷ filter test ks) (filter test ks))
     at true below rest = (below, rest)
     at false below rest = rest
 

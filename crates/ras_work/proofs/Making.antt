@@ -31,7 +31,8 @@ made-of (Ok made) request holdings writes replaced counted sound no_select = rec
 made-of (Err e) request holdings writes replaced counted sound no_select = tt
 
 -- a write that was looked at is sound
-pub fitting-sound : (of : SetType) (name : List ℕ) (holdings : Holdings) (write : Write) → IsFitting of write (held_domain (holdings (locks.Domain name write.oid))) → IsSoundWrite of name holdings write
+pub fitting-sound : (of : SetType) (name : List ℕ) (holdings : Holdings) (write : Write) → IsFitting of write (held_domain (holdings (locks.Domain name write.oid)))
+    → IsSoundWrite of name holdings write
 fitting-sound of name holdings write fits = record { region = fits.region; axes = fits.region_axes; each_point = fits.each_point; grows = fits.covers }
 
 -- where nothing is seen, the tiles are new

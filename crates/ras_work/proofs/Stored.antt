@@ -21,7 +21,8 @@ use Rattle.ras_tile.proofs.RowPlaces.{slice_get-place}
 use Rattle.ras_work.proofs.Pairs.{outside-lookup, points-lookup, slice_get-map}
 
 -- numbers that are stored fit the type
-pub stored-fits : (of : CellType) (nulls : NullSet) (numbers fit : Numbers) → (let r : Result Numbers CellFault = Ok fit in r ≡ stored_of (Value numbers) of nulls) → AreInRange (atoms_of of) fit.items
+pub stored-fits : (of : CellType) (nulls : NullSet) (numbers fit : Numbers) → (let r : Result Numbers CellFault = Ok fit in r ≡ stored_of (Value numbers) of nulls)
+    → AreInRange (atoms_of of) fit.items
 stored-fits of nulls numbers fit is = at (are_in_range (atoms_of of) numbers.items) refl is
   where
     at : (b : Bool) → are_in_range (atoms_of of) numbers.items ≡ b → (let r : Result Numbers CellFault = Ok fit in r ≡ cond b (Ok numbers) (Err CastRange)) → AreInRange (atoms_of of) fit.items

@@ -1,15 +1,15 @@
 -- The changes of one array that is written.
-use Rattle.std.specs.Prelude.{◌≡◌, ℕ, ℤ, if◌then◌else◌, List, [], ◌++◌, map, length}
+use Rattle.std.specs.Prelude.{◌≡◌, ℕ, ℤ, if◌then◌else◌, List, [], ◌++◌, map, filter, length}
 use Rattle.ras_domain.specs.declared.lock.LockName.TheVariants.{Domain}
 use Rattle.ras_domain.specs.Boxes.{Covers, is_same_box}
 use Rattle.ras_domain.specs.Region.{IsRegion, points_of}
+use Rattle.ras_grid.specs.Grid.{places_meeting}
 use Rattle.ras_store.specs.declared.write.Write.{Write}
 use Rattle.ras_store.specs.Databases.{holdings_of}
 use Rattle.ras_store.specs.View.{view_kept}
 use Rattle.ras_syntax.specs.declared.types.SetType.{SetType}
 use Rattle.spec_expressions.specs.Shape.{Box}
-use Rattle.spec_statements.specs.Phases.{changed_tiles}
-use Rattle.law_work.specs.ChangesFor.{held_domain, domain_replaced, places_changed, tile_replaced}
+use Rattle.law_work.specs.ChangesFor.{held_domain, domain_replaced, is_grown_place, places_changed, tile_replaced}
 use Rattle.law_work.specs.Replacements.{Replacement}
 use Rattle.law_work.specs.Writes.{stores_of_write}
 use Rattle.ras_work.specs.declared.rows.Row.{Row}
@@ -34,9 +34,9 @@ row_changes row old =
 abbrev pub row_domain : Row → Box
 row_domain row = held_domain (holdings_of (view_kept row.view.now) (Domain row.name.now row.oid))
 
--- the places of the tiles whose box changes
-abbrev pub places_grown : List ℕ → Box → Box → List (List ℤ)
-places_grown extents old grown = if is_same_box old grown then [] else changed_tiles extents old grown
+-- the places of the tiles whose box changes, and which the region doesn't meet
+abbrev pub places_grown : List ℕ → Box → Box → Box → List (List ℤ)
+places_grown extents old grown region = if is_same_box old grown then [] else filter (is_grown_place extents old grown region) (places_meeting extents grown)
 
 -- a write is one of an array of this type on a domain
 pub record IsFitting (of : SetType) (write : Write) (old : Box) : Type 0 where

@@ -7,7 +7,8 @@ ghost use Rattle.ras_store.specs.Databases.{holdings_of};
 ghost use Rattle.ras_store.specs.View.{view_kept};
 ghost use Rattle.spec_statements.specs.Statement.{request_of};
 ghost use Rattle.spec_views.specs.Holdings.{collection_held};
-ghost use Rattle.law_work.specs.ChangesFor.{array_inserted, collection_without, first_inserted, identifiers_without, number_inserted, row_replaced};
+ghost use Rattle.law_work.specs.ChangesFor.{array_inserted, collection_without, first_inserted, identifiers_without};
+ghost use Rattle.law_work.specs.ChangesFor.{number_inserted, row_replaced};
 ghost use Rattle.law_work.specs.Replacements.{replacement_of};
 ghost use Rattle.law_work.specs.Sound.{AreSoundRows, IsSoundWrite};
 ghost use Rattle.ras_work.specs.Made.{AreMade};
@@ -280,7 +281,8 @@ fn rows_of(
     requires { IsGrid source.now.of.extents.items }
     ensures changes { IfOk result (λ changes. map replacement_of changes
         ≡ flat_map (row_replaced source.now.of source.now.collection (holdings_of (view_kept view.now))) writes.now) }
-    ensures sound { IfOk result (λ changes. All (IsSoundWrite source.now.of source.now.collection (holdings_of (view_kept view.now))) writes.now) }
+    ensures sound { IfOk result (λ changes.
+        All (IsSoundWrite source.now.of source.now.collection (holdings_of (view_kept view.now))) writes.now) }
 {
     let mut changes = Changes::new(alloc);
     for write in writes {

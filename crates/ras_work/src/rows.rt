@@ -109,7 +109,8 @@ fn add_domain(
 /// statement comes to over the view.
 pub(crate) fn add_row(alloc: Global, row: &Row, changes: &mut Changes) -> Result<(), AllocError>
     requires { IsGrid row.now.of.now.extents.items }
-    ensures changes { OnOk result (map replacement_of changes.new ≡ map replacement_of changes.old ++ row_changes row.now (row_domain row.now)) }
+    ensures changes { OnOk result (map replacement_of changes.new
+        ≡ map replacement_of changes.old ++ row_changes row.now (row_domain row.now)) }
     ensures sound { OnOk result (IsFitting row.now.of.now row.now.write.now (row_domain row.now)) }
 {
     let Some(old) = row.view.domain_of(row.name, row.oid) else {
@@ -119,6 +120,6 @@ pub(crate) fn add_row(alloc: Global, row: &Row, changes: &mut Changes) -> Result
     add_domain(alloc, row, &old, changes)?;
     let met = tiles_meeting(alloc, &row.write.region, &row.of.extents)?;
     add_tiles(alloc, row, met.as_slice(), changes)?;
-    let grown = grown_places(alloc, &row.of.extents, &old, &row.write.grown)?;
+    let grown = grown_places(alloc, &row.of.extents, &old, row.write)?;
     add_tiles(alloc, row, grown.as_slice(), changes)
 }

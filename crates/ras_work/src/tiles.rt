@@ -53,7 +53,8 @@ fn fill(
 ) -> Result<(), AllocError>
     requires writable { IsTrue tile.old.writable }
     requires width { tile.old.width ≡ length (atoms_of of.now.cell) }
-    ensures { OnOk result (IsFilledUpTo of.now rule write.now (tile_held_of (option_copied old.entry)) (length (points_of tile.old.region)) tile.old tile.new) }
+    ensures { OnOk result (IsFilledUpTo of.now rule write.now (tile_held_of (option_copied old.entry))
+        (length (points_of tile.old.region)) tile.old tile.new) }
 {
     let volume = tile.region().volume();
     for place in 0..volume {

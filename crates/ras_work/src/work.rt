@@ -44,7 +44,8 @@ impl Work {
     /// work stays as it was, and the piece is handed back.
     pub fn take_piece(&mut self, alloc: Global, piece: Piece) -> Result<(), Piece>
         ensures kept { OnOk result ((name : LockName) → work_kept self.new name
-            ≡ (if is_written (work_changes self.old) name then work_kept self.old name else piece_over piece name (work_kept self.old name))) }
+            ≡ (if is_written (work_changes self.old) name then work_kept self.old name
+            else piece_over piece name (work_kept self.old name))) }
         ensures changes { work_changes self.new ≡ work_changes self.old }
         ensures refused { OnErr result (IsSameWork self.old self.new) }
         ensures piece_returned { IfErr result (λ back. back ≡ piece) }

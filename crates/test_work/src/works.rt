@@ -209,8 +209,16 @@ fn work_of_g(rt: &impl Abort, alloc: Global) -> Result<Work, Fail> {
     let nothing = Computed::Writes(List::new(alloc));
     assert_eq!(rt; work.apply(alloc, &create(alloc)?, nothing).ok(), Some(0));
     let numbers = whole_numbers(alloc)?;
-    let write = write_of(alloc, [(0, 3), (0, 3)], [(0, 3), (0, 3)], numbers.as_slice())?;
-    assert_eq!(rt; work.apply(alloc, &insert(alloc)?, one(alloc, write)?).ok(), Some(1));
+    let write = write_of(
+        alloc,
+        [(0, 3), (0, 3)],
+        [(0, 3), (0, 3)],
+        numbers.as_slice(),
+    )?;
+    assert_eq!(rt;
+        work.apply(alloc, &insert(alloc)?, one(alloc, write)?).ok(),
+        Some(1)
+    );
     Ok(work)
 }
 
@@ -223,7 +231,10 @@ fn check_tile(
     cells: &[i64],
 ) -> Result<(), Fail> {
     let name = name_of(alloc)?;
-    let tile = work.view().tile_of(&name, 1, &point_of(place)).ok_or("no tile")?;
+    let tile = work
+        .view()
+        .tile_of(&name, 1, &point_of(place))
+        .ok_or("no tile")?;
     let numbers = numbers_in(rt, alloc, tile)?;
     assert_eq!(rt; numbers.as_slice(), cells, "at {place:?}");
     Ok(())
@@ -261,9 +272,17 @@ fn an_array_is_put_in(rt: HostRuntime) -> Result<(), Fail> {
 fn an_update_writes_what_isnt_null(rt: HostRuntime) -> Result<(), Fail> {
     let mut work = work_of_g(&rt, rt.alloc())?;
     let region = [(1, 2), (1, 1)];
-    let write = write_of(rt.alloc(), [(0, 3), (0, 3)], region, [Some(70), None].as_slice())?;
+    let write = write_of(
+        rt.alloc(),
+        [(0, 3), (0, 3)],
+        region,
+        [Some(70), None].as_slice(),
+    )?;
     let computed = one(rt.alloc(), write)?;
-    assert_eq!(rt; work.apply(rt.alloc(), &update(rt.alloc())?, computed).ok(), Some(1));
+    assert_eq!(rt;
+        work.apply(rt.alloc(), &update(rt.alloc())?, computed).ok(),
+        Some(1)
+    );
     check_tiles(&rt, rt.alloc(), &work, WRITTEN.as_slice())?;
     assert_eq!(rt; work.into_changes().items().len(), 9);
     Ok(())
@@ -272,9 +291,17 @@ fn an_update_writes_what_isnt_null(rt: HostRuntime) -> Result<(), Fail> {
 #[test]
 fn an_array_grows(rt: HostRuntime) -> Result<(), Fail> {
     let mut work = work_of_g(&rt, rt.alloc())?;
-    let write = write_of(rt.alloc(), [(0, 4), (0, 3)], [(4, 4), (0, 0)], [Some(5)].as_slice())?;
+    let write = write_of(
+        rt.alloc(),
+        [(0, 4), (0, 3)],
+        [(4, 4), (0, 0)],
+        [Some(5)].as_slice(),
+    )?;
     let computed = one(rt.alloc(), write)?;
-    assert_eq!(rt; work.apply(rt.alloc(), &update(rt.alloc())?, computed).ok(), Some(1));
+    assert_eq!(rt;
+        work.apply(rt.alloc(), &update(rt.alloc())?, computed).ok(),
+        Some(1)
+    );
     let name = name_of(rt.alloc())?;
     let domain = work.view().domain_of(&name, 1);
     assert_eq!(rt; domain, Some(region_of([(0, 4), (0, 3)])?));
@@ -286,12 +313,28 @@ fn an_array_grows(rt: HostRuntime) -> Result<(), Fail> {
 #[test]
 fn a_refusal_leaves_the_work(rt: HostRuntime) -> Result<(), Fail> {
     let mut work = work_of_g(&rt, rt.alloc())?;
-    let write = write_of(rt.alloc(), [(0, 3), (0, 3)], [(1, 2), (1, 1)], [Some(70)].as_slice())?;
+    let write = write_of(
+        rt.alloc(),
+        [(0, 3), (0, 3)],
+        [(1, 2), (1, 1)],
+        [Some(70)].as_slice(),
+    )?;
     let computed = one(rt.alloc(), write)?;
-    assert!(rt; work.apply(rt.alloc(), &update(rt.alloc())?, computed).is_err());
-    let write = write_of(rt.alloc(), [(0, 3), (0, 3)], [(1, 1), (1, 1)], [Some(256)].as_slice())?;
+    assert!(rt;
+        work.apply(rt.alloc(), &update(rt.alloc())?, computed)
+            .is_err()
+    );
+    let write = write_of(
+        rt.alloc(),
+        [(0, 3), (0, 3)],
+        [(1, 1), (1, 1)],
+        [Some(256)].as_slice(),
+    )?;
     let computed = one(rt.alloc(), write)?;
-    assert!(rt; work.apply(rt.alloc(), &update(rt.alloc())?, computed).is_err());
+    assert!(rt;
+        work.apply(rt.alloc(), &update(rt.alloc())?, computed)
+            .is_err()
+    );
     check_tiles(&rt, rt.alloc(), &work, WHOLE.as_slice())?;
     assert_eq!(rt; work.into_changes().items().len(), 7);
     Ok(())
@@ -309,14 +352,25 @@ fn piece_of_g(alloc: Global) -> Result<Piece, Fail> {
 fn what_was_taken_out_stays_so(rt: HostRuntime) -> Result<(), Fail> {
     let mut work = work_of_g(&rt, rt.alloc())?;
     let name = name_of(rt.alloc())?;
-    let write = write_of(rt.alloc(), [(0, 3), (0, 3)], [(0, 3), (0, 3)], [].as_slice())?;
+    let write = write_of(
+        rt.alloc(),
+        [(0, 3), (0, 3)],
+        [(0, 3), (0, 3)],
+        [].as_slice(),
+    )?;
     let computed = one(rt.alloc(), write)?;
-    assert_eq!(rt; work.apply(rt.alloc(), &delete(rt.alloc())?, computed).ok(), Some(1));
+    assert_eq!(rt;
+        work.apply(rt.alloc(), &delete(rt.alloc())?, computed).ok(),
+        Some(1)
+    );
     assert_eq!(rt; work.view().members(&name).map(|info| info.next), Some(2));
     assert!(rt; work.take_piece(rt.alloc(), piece_of_g(rt.alloc())?).is_ok());
     assert!(rt; work.view().domain_of(&name, 1).is_none());
     let nothing = Computed::Writes(List::new(rt.alloc()));
-    assert_eq!(rt; work.apply(rt.alloc(), &drop_of(rt.alloc())?, nothing).ok(), Some(0));
+    assert_eq!(rt;
+        work.apply(rt.alloc(), &drop_of(rt.alloc())?, nothing).ok(),
+        Some(0)
+    );
     assert!(rt; work.view().members(&name).is_none());
     Ok(())
 }
