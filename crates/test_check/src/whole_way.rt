@@ -1,0 +1,94 @@
+//! The whole way from a text to a typed statement, as the README of `ras_check` shows it, and statements with many
+//! sources.
+ghost use Rattle.std.specs.Prelude.{◌<◌, ◌^◌, length, IfOk};
+ghost use Rattle.spec_statements.specs.Statement.{statement_tree_of};
+ghost use Rattle.law_checks.specs.Statements.{IsWellTypedRequest};
+ghost use Rattle.ras_catalog.specs.CatalogView.{catalog_over};
+
+use crate::accepted::{Shown, kind_in};
+use crate::told::{Refusal, checked, types_of};
+use ras_cells::Atom;
+use ras_check::{CheckError, check, what_the_check_gives_is_well_typed};
+use ras_domain::Name;
+use ras_parse::parse_statement;
+use ras_syntax::{CheckFault, Checked, Span, Types};
+use spec_grammar::laws::statements_have_numbers_in_range;
+use std::alloc::{AllocError, Global};
+use std::process::Abort;
+use std::test::Fail;
+
+#[test]
+fn a_text_becomes_a_typed_statement(rt: HostRuntime) -> Result<(), Fail> {
+    let alloc = rt.alloc();
+    let types = types_of(alloc)?;
+    let collections = [(Name::of(alloc, b"G")?, Some(0))];
+    let text = b"select a + 1 from G as a where some_cells(a > 2)";
+    let statement = parse_statement(alloc, text)?;
+    let checked = check(alloc, &statement, &types, &collections)?;
+    // An array of wide numbers with two axes.
+    assert_eq!(rt; kind_in(&checked.form), Some(Shown::Array(Atom::Wide, 2)));
+    Ok(())
+}
+
+/// The typed statement of a text is well typed: code above the check has this from the two laws that it calls.
+fn typed_statement(
+    alloc: Global,
+    text: &[u8],
+    types: &Types,
+    collections: &[(Name, Option<u32>)],
+) -> Result<Checked, Refusal>
+    requires { length text.now < 2 ^ 32 }
+    ensures { IfOk result (λ checked. IsWellTypedRequest (catalog_over types.now collections.now) (statement_tree_of checked).request) }
+{
+    let statement = parse_statement(alloc, text)?;
+    let checked = check(alloc, &statement, types, collections)?;
+    statements_have_numbers_in_range();
+    what_the_check_gives_is_well_typed();
+    Ok(checked)
+}
+
+#[test]
+fn a_typed_statement_is_given(rt: HostRuntime) -> Result<(), Fail> {
+    let alloc = rt.alloc();
+    let types = types_of(alloc)?;
+    let collections = [(Name::of(alloc, b"G")?, Some(0))];
+    let found = typed_statement(alloc, b"drop collection G", &types, &collections);
+    assert_eq!(rt; found.err(), None);
+    Ok(())
+}
+
+/// `select a from G as a, G as b0000, ..` with ten thousand sources after the first, and this at the end.
+fn many_sources(alloc: Global, end: &[u8]) -> Result<Vec<u8>, AllocError> {
+    let mut text = Vec::from_slice(alloc, b"select a from G as a")?;
+    for number in 0..10_000u32 {
+        text.extend_from_slice(b", G as b")?;
+        for place in [1000, 100, 10, 1] {
+            text.push(b'0' + (number / place % 10) as u8)?;
+        }
+    }
+    text.extend_from_slice(end)?;
+    Ok(text)
+}
+
+#[test]
+fn ten_thousand_sources_are_accepted(rt: HostRuntime) -> Result<(), Fail> {
+    let text = many_sources(rt.alloc(), b"")?;
+    assert_eq!(rt; checked(&rt, &text).err(), None);
+    Ok(())
+}
+
+#[test]
+fn the_last_of_ten_thousand_sources_is_missing(rt: HostRuntime) -> Result<(), Fail> {
+    let text = many_sources(rt.alloc(), b", H")?;
+    // 20 bytes, 12 for each source, and 2 before the name.
+    let span = Span {
+        from: 120_022,
+        to: 120_023,
+    };
+    let wanted = Refusal::Check(CheckError::Fault {
+        span,
+        fault: CheckFault::NoCollection,
+    });
+    assert_eq!(rt; checked(&rt, &text).err(), Some(wanted));
+    Ok(())
+}
