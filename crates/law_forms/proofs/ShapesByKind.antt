@@ -18,7 +18,7 @@ use Rattle.law_shapes.proofs.Agree.{shape-agrees}
 use Rattle.law_shapes.proofs.Operands.{IsPartOf}
 use Rattle.law_shapes.proofs.Outcomes.{bind_ok}
 use Rattle.law_shapes.proofs.Rules.{HasCells}
-use Rattle.law_forms.specs.FormShapes.{IsOneCell, IsArrayOn, StandsIn, HaveOneCell, PairsHaveOneCell, EdgeHasOneCell, AxesHaveOneCell, ConditionHasOneCell}
+use Rattle.law_forms.specs.FormShapes.{IsOneCell, IsArrayOn, IsOperandIn, HaveOneCell, PairsHaveOneCell, EdgeHasOneCell, AxesHaveOneCell, ConditionHasOneCell}
 
 -- ---- one shape
 
@@ -67,12 +67,12 @@ stands (Array cell n) (box axes) whole cells fits part = absurd fits
 stands (DomainKind n) (box axes) whole cells fits part = absurd cells
 stands (Point n) (box axes) whole cells fits part = absurd fits
 
-either-shape : (domains : List Box) (e : Tree) (x whole : Shape) → shape_of domains e ≡ Ok x → (x ≡ whole) ⊎ (x ≡ scalar) → StandsIn domains whole e
+either-shape : (domains : List Box) (e : Tree) (x whole : Shape) → shape_of domains e ≡ Ok x → (x ≡ whole) ⊎ (x ≡ scalar) → IsOperandIn domains whole e
 either-shape domains e x whole is (inl same) = inl (is ∙ ap (λ s. Ok s) same)
 either-shape domains e x whole is (inr one) = inr (is ∙ ap (λ s. Ok s) one)
 
 pub stands-in : (sources : List CheckedSource) (variables : Variables) (domains : List Box) (whole : Shape) (e : Tree) (x : Shape)
-    → IsWellTyped sources variables e → AreDomainsOf sources domains → HasCells 0 (kind_in e) → shape_of domains e ≡ Ok x → IsPartOf x whole → StandsIn domains whole e
+    → IsWellTyped sources variables e → AreDomainsOf sources domains → HasCells 0 (kind_in e) → shape_of domains e ≡ Ok x → IsPartOf x whole → IsOperandIn domains whole e
 stands-in sources variables domains whole e x typed fits cells is part =
     either-shape domains e x whole is (stands (kind_in e) x whole cells (shape-agrees sources variables domains e x typed fits is) part)
 

@@ -30,7 +30,7 @@ use Rattle.law_shapes.proofs.Outcomes.{bind_ok, same_ok, unless_ok}
 use Rattle.law_shapes.proofs.Parts.{AreParts, ArePairParts, AreShapesOf, at_point-parts, folded-parts, bound_of-parts, domain_of-parts, interval_of-parts, binary-parts, choice-parts, composite-parts}
 use Rattle.law_shapes.proofs.Rules.{HasCells, induced-ok, choice-cells, composite-cells}
 use Rattle.law_forms.specs.FormKinds.{IsArrayWith}
-use Rattle.law_forms.specs.FormShapes.{StandsIn, StandIn, PairsStandIn, AreArraysOn, GivesBox, DomainPartsGive, IteratorShapes, IndexShapes, OneCellShapes, MarrayShapes, CondenseShapes, ShiftShapes, ExtendShapes, ConcatShapes, DomainShapes, IntervalShapes, BoundShapes, HasPartShapes}
+use Rattle.law_forms.specs.FormShapes.{IsOperandIn, AreOperandsIn, AreOperandPairsIn, AreArraysOn, ComesToBox, DomainPartsGive, IteratorShapes, IndexShapes, OneCellShapes, MarrayShapes, CondenseShapes, ShiftShapes, ExtendShapes, ConcatShapes, DomainShapes, IntervalShapes, BoundShapes, HasPartShapes}
 use Rattle.law_forms.proofs.CellTypes.{has_cells}
 use Rattle.law_forms.proofs.KindsOfParts.{binary-kinds, concat-kinds, condense-kinds, folded-kinds, index-kinds}
 use Rattle.law_forms.proofs.ShapesByKind.{array-on, one-cell, domain-on, stands-in, condition-one, offsets-one, bounds-one, axes-one, axis-of, domain-of}
@@ -39,7 +39,7 @@ use Rattle.law_forms.proofs.ShapesByKind.{array-on, one-cell, domain-on, stands-
 
 binary-shapes : (sources : List CheckedSource) (variables : Variables) (domains : List Box) (span : Span) (kind : Kind) (op : Op2) (a b : Tree) (shape : Shape)
     → HasKind sources variables kind (binary op a b) → AreDomainsOf sources domains → form_shape domains span kind (binary op a b) ≡ Ok shape
-    → StandsIn domains shape a × StandsIn domains shape b
+    → IsOperandIn domains shape a × IsOperandIn domains shape b
 binary-shapes sources variables domains span kind op a b shape typed fits is =
     let parts = binary-parts domains span kind op a b shape is in
     let kinds = binary-kinds op (kind_in a) (kind_in b) kind typed.2 in (
@@ -49,7 +49,7 @@ binary-shapes sources variables domains span kind op a b shape typed fits is =
 
 pairs-stand : (sources : List CheckedSource) (variables : Variables) (domains : List Box) (whole : Shape) (ps : Pairs) → AreWellTypedPairs sources variables ps
     → AreDomainsOf sources domains → AllByRecursion (HasCells 0) (firsts_in ps) → AllByRecursion (HasCells 0) (seconds_in ps) → ArePairParts domains whole ps
-    → PairsStandIn domains whole ps
+    → AreOperandPairsIn domains whole ps
 pairs-stand sources variables domains whole no_pairs typed fits firsts seconds parts = tt
 pairs-stand sources variables domains whole (pairs a b ps) typed fits firsts seconds parts = (
   stands-in sources variables domains whole a parts.0.0 typed.0 fits firsts.0 parts.0.1 parts.0.2,
@@ -59,7 +59,7 @@ pairs-stand sources variables domains whole (pairs a b ps) typed fits firsts sec
 
 choice-shapes : (sources : List CheckedSource) (variables : Variables) (domains : List Box) (span : Span) (kind : Kind) (arms : Pairs) (other : Tree) (shape : Shape)
     → HasKind sources variables kind (choice arms other) → AreDomainsOf sources domains → form_shape domains span kind (choice arms other) ≡ Ok shape
-    → PairsStandIn domains shape arms × StandsIn domains shape other
+    → AreOperandPairsIn domains shape arms × IsOperandIn domains shape other
 choice-shapes sources variables domains span kind arms other shape typed fits is =
     let branches : List Kind = seconds_in arms ++ kind_in other ∷ [] in
     let parts = choice-parts domains span kind arms other shape is in
@@ -71,13 +71,13 @@ choice-shapes sources variables domains span kind arms other shape typed fits is
     )
 
 each-stands : (sources : List CheckedSource) (variables : Variables) (domains : List Box) (whole : Shape) (es : Trees) → AreWellTyped sources variables es
-    → AreDomainsOf sources domains → AllByRecursion (HasCells 0) (kinds_in es) → AreParts domains whole es → StandIn domains whole es
+    → AreDomainsOf sources domains → AllByRecursion (HasCells 0) (kinds_in es) → AreParts domains whole es → AreOperandsIn domains whole es
 each-stands sources variables domains whole no_trees typed fits cells parts = tt
 each-stands sources variables domains whole (trees e es) typed fits cells parts =
     (stands-in sources variables domains whole e parts.0.0 typed.0 fits cells.0 parts.0.1 parts.0.2, each-stands sources variables domains whole es typed.1 fits cells.1 parts.1)
 
 composite-shapes : (sources : List CheckedSource) (variables : Variables) (domains : List Box) (span : Span) (kind : Kind) (es : Trees) (shape : Shape)
-    → HasKind sources variables kind (composite es) → AreDomainsOf sources domains → form_shape domains span kind (composite es) ≡ Ok shape → StandIn domains shape es
+    → HasKind sources variables kind (composite es) → AreDomainsOf sources domains → form_shape domains span kind (composite es) ≡ Ok shape → AreOperandsIn domains shape es
 composite-shapes sources variables domains span kind es shape typed fits is =
     let parts = composite-parts domains span kind es shape is in
     let rule = induced-ok (composite_type (atoms_of_all (kinds_in es))) (kinds_in es) kind typed.1 in
@@ -203,7 +203,7 @@ domain-parts sources variables domains span (domain_like e) written axes typed f
 
 gives-box : (sources : List CheckedSource) (variables : Variables) (domains : List Box) (span : Span) (domain : Domain) (written : Written) (axes : Box)
     → IsWellTypedDomain sources variables domain → AreDomainsOf sources domains → written_of domains domain ≡ Ok written → written_box span written ≡ Ok axes
-    → GivesBox domains span domain axes
+    → ComesToBox domains span domain axes
 gives-box sources variables domains span domain written axes typed fits is gives = record {
   written = written;
   written_is = is;

@@ -25,16 +25,16 @@ pub record IsArrayOn (domains : List Box) (e : Tree) (domain : Box) : Type 0 whe
   pub count : length domain ≡ axes_of_kind (kind_in e)
 
 -- the expression stands as an operand in what has this shape: it is one cell, or an array of that shape
-abbrev pub StandsIn : List Box → Shape → Tree → Type 0
-StandsIn domains whole e = (shape_of domains e ≡ Ok whole) ⊎ IsOneCell domains e
+abbrev pub IsOperandIn : List Box → Shape → Tree → Type 0
+IsOperandIn domains whole e = (shape_of domains e ≡ Ok whole) ⊎ IsOneCell domains e
 
-abbrev pub StandIn : List Box → Shape → Trees → Type 0
-StandIn domains whole no_trees = Unit {0}
-StandIn domains whole (trees e es) = StandsIn domains whole e × StandIn domains whole es
+abbrev pub AreOperandsIn : List Box → Shape → Trees → Type 0
+AreOperandsIn domains whole no_trees = Unit {0}
+AreOperandsIn domains whole (trees e es) = IsOperandIn domains whole e × AreOperandsIn domains whole es
 
-abbrev pub PairsStandIn : List Box → Shape → Pairs → Type 0
-PairsStandIn domains whole no_pairs = Unit {0}
-PairsStandIn domains whole (pairs a b ps) = StandsIn domains whole a × StandsIn domains whole b × PairsStandIn domains whole ps
+abbrev pub AreOperandPairsIn : List Box → Shape → Pairs → Type 0
+AreOperandPairsIn domains whole no_pairs = Unit {0}
+AreOperandPairsIn domains whole (pairs a b ps) = IsOperandIn domains whole a × IsOperandIn domains whole b × AreOperandPairsIn domains whole ps
 
 abbrev pub HaveOneCell : List Box → Trees → Type 0
 HaveOneCell domains no_trees = Unit {0}
@@ -71,7 +71,7 @@ DomainPartsGive domains (bounds ps) axes = PairsHaveOneCell domains ps
 DomainPartsGive domains (domain_like e) axes = shape_of domains e ≡ Ok (box axes)
 
 -- the box that a domain gives in an expression of this span
-pub record GivesBox (domains : List Box) (span : Span) (domain : Domain) (axes : Box) : Type 0 where
+pub record ComesToBox (domains : List Box) (span : Span) (domain : Domain) (axes : Box) : Type 0 where
   pub written : Written
   pub written_is : written_of domains domain ≡ Ok written
   pub box_is : written_box span written ≡ Ok axes
@@ -104,13 +104,13 @@ pub record OneCellShapes (domains : List Box) (e : Tree) (shape : Shape) : Type 
 
 pub record MarrayShapes (domains : List Box) (span : Span) (domain : Domain) (e : Tree) (shape : Shape) : Type 0 where
   pub axes : Box
-  pub over : GivesBox domains span domain axes
+  pub over : ComesToBox domains span domain axes
   pub body : IsOneCell domains e
   pub shape_is : shape ≡ array axes
 
 pub record CondenseShapes (domains : List Box) (span : Span) (domain : Domain) (condition : Condition) (e : Tree) (shape : Shape) : Type 0 where
   pub axes : Box
-  pub over : GivesBox domains span domain axes
+  pub over : ComesToBox domains span domain axes
   pub few_points : volume_of axes ≤ MAX_POINTS
   pub test : ConditionHasOneCell domains condition
   pub body : IsOneCell domains e
@@ -131,7 +131,7 @@ pub record ExtendShapes (domains : List Box) (span : Span) (e : Tree) (domain : 
   pub inner : Box
   pub part : IsArrayOn domains e inner
   pub axes : Box
-  pub over : GivesBox domains span domain axes
+  pub over : ComesToBox domains span domain axes
   pub lies : LiesIn inner axes
   pub shape_is : shape ≡ array axes
 
@@ -164,11 +164,11 @@ pub record BoundShapes (domains : List Box) (e : Tree) (k : ℤ) (shape : Shape)
 -- what the shape of the form of this span says of the shapes of the parts
 abbrev pub HasPartShapes : List Box → Span → Form → Shape → Type 0
 HasPartShapes domains span (iterator place) shape = IteratorShapes domains place shape
-HasPartShapes domains span (binary op a b) shape = StandsIn domains shape a × StandsIn domains shape b
+HasPartShapes domains span (binary op a b) shape = IsOperandIn domains shape a × IsOperandIn domains shape b
 HasPartShapes domains span (index e axes) shape = IndexShapes domains e axes shape
 HasPartShapes domains span (at_point e x) shape = OneCellShapes domains e shape
-HasPartShapes domains span (choice arms other) shape = PairsStandIn domains shape arms × StandsIn domains shape other
-HasPartShapes domains span (composite es) shape = StandIn domains shape es
+HasPartShapes domains span (choice arms other) shape = AreOperandPairsIn domains shape arms × IsOperandIn domains shape other
+HasPartShapes domains span (composite es) shape = AreOperandsIn domains shape es
 HasPartShapes domains span (marray x domain e) shape = MarrayShapes domains span domain e shape
 HasPartShapes domains span (condense op x domain condition e) shape = CondenseShapes domains span domain condition e shape
 HasPartShapes domains span (folded f e) shape = OneCellShapes domains e shape
