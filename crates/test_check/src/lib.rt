@@ -7,8 +7,6 @@ mod accepted;
 #[cfg(test)]
 mod faults;
 #[cfg(test)]
-mod operators;
-#[cfg(test)]
 mod told;
 #[cfg(test)]
 mod whole_way;

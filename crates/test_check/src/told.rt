@@ -4,7 +4,7 @@ use arrayvec::ArrayVec;
 use ras_cells::{Atom, CellType, NullSet};
 use ras_check::{CheckError, check};
 use ras_domain::{Bounds, Interval, List, Name};
-use ras_parse::{ParseFault, parse_statement};
+use ras_parse::parse_statement;
 use ras_syntax::{Checked, SetType, Types};
 use std::alloc::{AllocError, Global};
 use std::process::Abort;
@@ -14,32 +14,6 @@ const ANY: Interval = Interval {
     lo: -2_147_483_648,
     hi: 2_147_483_647,
 };
-
-/// Why a text has no typed statement.
-#[derive(Clone, Copy, Debug, PartialEq, Eq)]
-pub enum Refusal {
-    Parse(ParseFault),
-    Check(CheckError),
-    Memory,
-}
-
-impl From<AllocError> for Refusal {
-    fn from(_: AllocError) -> Refusal {
-        Refusal::Memory
-    }
-}
-
-impl From<ParseFault> for Refusal {
-    fn from(fault: ParseFault) -> Refusal {
-        Refusal::Parse(fault)
-    }
-}
-
-impl From<CheckError> for Refusal {
-    fn from(error: CheckError) -> Refusal {
-        Refusal::Check(error)
-    }
-}
 
 /// A type of this name with so many axes.
 fn of_axes(
@@ -113,10 +87,14 @@ pub fn types_of(alloc: Global) -> Result<Types, AllocError> {
     Ok(types)
 }
 
-/// The typed statement that a text is, or why there is none.
-pub fn checked(rt: &(impl Abort + AllocGlobal), text: &[u8]) -> Result<Checked, Refusal> {
+/// The typed statement that a text is, or why the check gives none. A text that isn't read would count as want of memory,
+/// which no row wants.
+pub fn checked(rt: &(impl Abort + AllocGlobal), text: &[u8]) -> Result<Checked, CheckError> {
     assert!(rt; text.len() < 4_294_967_296);
     let alloc = rt.alloc();
+    let Ok(statement) = parse_statement(alloc, text) else {
+        return Err(CheckError::Memory);
+    };
     let collections = [
         (Name::of(alloc, b"X")?, None),
         (Name::of(alloc, b"G")?, Some(0)),
@@ -124,6 +102,5 @@ pub fn checked(rt: &(impl Abort + AllocGlobal), text: &[u8]) -> Result<Checked, 
         (Name::of(alloc, b"R")?, Some(2)),
     ];
     let types = types_of(alloc)?;
-    let statement = parse_statement(alloc, text)?;
-    Ok(check(alloc, &statement, &types, &collections)?)
+    check(alloc, &statement, &types, &collections)
 }

@@ -1,17 +1,18 @@
 //! The whole way from a text to a typed statement, as the README of `ras_check` shows it, and statements with many
 //! sources.
-ghost use Rattle.std.specs.Prelude.{◌<◌, ◌^◌, length, IfOk};
+ghost use Rattle.std.specs.Prelude.{IfOk, Ok};
+ghost use Rattle.spec_grammar.specs.Verdict.{IsVerdict};
 ghost use Rattle.spec_statements.specs.Statement.{statement_tree_of};
 ghost use Rattle.law_checks.specs.Statements.{IsWellTypedRequest};
 ghost use Rattle.ras_catalog.specs.CatalogView.{catalog_over};
 
 use crate::accepted::{Shown, kind_in};
-use crate::told::{Refusal, checked, types_of};
+use crate::told::{checked, types_of};
 use ras_cells::Atom;
 use ras_check::{CheckError, check, what_the_check_gives_is_well_typed};
 use ras_domain::Name;
 use ras_parse::parse_statement;
-use ras_syntax::{CheckFault, Checked, Span, Types};
+use ras_syntax::{CheckFault, Checked, Span, Statement, Types};
 use spec_grammar::laws::statements_have_numbers_in_range;
 use std::alloc::{AllocError, Global};
 use std::process::Abort;
@@ -30,18 +31,18 @@ fn a_text_becomes_a_typed_statement(rt: HostRuntime) -> Result<(), Fail> {
     Ok(())
 }
 
-/// The typed statement of a text is well typed: code above the check has this from the two laws that it calls.
+/// The typed statement of a text's statement is well typed. Code above the check has this from the two laws that it calls.
 fn typed_statement(
     alloc: Global,
     text: &[u8],
+    statement: &Statement,
     types: &Types,
     collections: &[(Name, Option<u32>)],
-) -> Result<Checked, Refusal>
-    requires { length text.now < 2 ^ 32 }
+) -> Result<Checked, CheckError>
+    requires { IsVerdict text.now (Ok statement.now) }
     ensures { IfOk result (λ checked. IsWellTypedRequest (catalog_over types.now collections.now) (statement_tree_of checked).request) }
 {
-    let statement = parse_statement(alloc, text)?;
-    let checked = check(alloc, &statement, types, collections)?;
+    let checked = check(alloc, statement, types, collections)?;
     statements_have_numbers_in_range();
     what_the_check_gives_is_well_typed();
     Ok(checked)
@@ -52,7 +53,9 @@ fn a_typed_statement_is_given(rt: HostRuntime) -> Result<(), Fail> {
     let alloc = rt.alloc();
     let types = types_of(alloc)?;
     let collections = [(Name::of(alloc, b"G")?, Some(0))];
-    let found = typed_statement(alloc, b"drop collection G", &types, &collections);
+    let text = b"drop collection G";
+    let statement = parse_statement(alloc, text)?;
+    let found = typed_statement(alloc, text, &statement, &types, &collections);
     assert_eq!(rt; found.err(), None);
     Ok(())
 }
@@ -62,9 +65,10 @@ fn many_sources(alloc: Global, end: &[u8]) -> Result<Vec<u8>, AllocError> {
     let mut text = Vec::from_slice(alloc, b"select a from G as a")?;
     for number in 0..10_000u32 {
         text.extend_from_slice(b", G as b")?;
-        for place in [1000, 100, 10, 1] {
-            text.push(b'0' + (number / place % 10) as u8)?;
-        }
+        text.push(b'0' + (number / 1000 % 10) as u8)?;
+        text.push(b'0' + (number / 100 % 10) as u8)?;
+        text.push(b'0' + (number / 10 % 10) as u8)?;
+        text.push(b'0' + (number % 10) as u8)?;
     }
     text.extend_from_slice(end)?;
     Ok(text)
@@ -85,10 +89,10 @@ fn the_last_of_ten_thousand_sources_is_missing(rt: HostRuntime) -> Result<(), Fa
         from: 120_022,
         to: 120_023,
     };
-    let wanted = Refusal::Check(CheckError::Fault {
+    let wanted = CheckError::Fault {
         span,
         fault: CheckFault::NoCollection,
-    });
+    };
     assert_eq!(rt; checked(&rt, &text).err(), Some(wanted));
     Ok(())
 }
