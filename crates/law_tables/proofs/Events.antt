@@ -54,7 +54,8 @@ after_other past event table new lives locks tied now = record {
     same : (u : ℕ) → (is_going (events_of u (event ∷ past)) ≡ is_going (events_of u past)) × (granted_locks (events_of u (event ∷ past)) ≡ granted_locks (events_of u past))
     same u = by (eqb (owner_of event) u) refl
       where
-        by : (b : Bool) → eqb (owner_of event) u ≡ b → (is_going (events_of u (event ∷ past)) ≡ is_going (events_of u past)) × (granted_locks (events_of u (event ∷ past)) ≡ granted_locks (events_of u past))
+        by : (b : Bool) → eqb (owner_of event) u ≡ b → (is_going (events_of u (event ∷ past)) ≡ is_going (events_of u past)) ×
+                (granted_locks (events_of u (event ∷ past)) ≡ granted_locks (events_of u past))
         by true e = (ap is_going (own event past u e) ∙ lives (events_of u past), ap granted_locks (own event past u e) ∙ locks (events_of u past))
         by false e = (ap is_going (others event past u e), ap granted_locks (others event past u e))
 
@@ -125,7 +126,9 @@ pub after_grant : (past : History) (t k p : ℕ) (list : List Lock) (table new :
     → ((name : LockName) → holders_of new name ≡ with_locks list t name (holders_of table name)) → IsTableOf (Granted t k p list ∷ past) new
 after_grant past t k p list table new live tied now = record {
   sound = λ name holder has. elim (from_locks list t name (holders_of table name) holder (subst (λ hs. Contains hs holder) (now name) has)) [
-    | inl both ↦ subst (λ n. Holds (event ∷ past) n (name, holder.mode)) both.0 (granted_now (name, holder.mode) (Contains-append_left list (granted_locks (events_of t past)) (name, holder.mode) both.1))
+    | inl both ↦ subst (λ n. Holds (event ∷ past) n (name, holder.mode)) both.0
+            (granted_now (name, holder.mode) (Contains-append_left list (granted_locks (events_of t past))
+            (name, holder.mode) both.1))
     | inr there ↦ grown holder.owner (name, holder.mode) (tied.sound name holder there)
   ];
   complete = λ u lock holds. by u lock holds (eqb t u) refl;

@@ -59,7 +59,9 @@ kept_entry owner mode (holder ∷ holders) one has =
       strong = λ e. stronger_later mode holder.mode (ap (λ (x : Holder). x.mode) same ∙ e);
     }
     by Equal order (inr later) deeper = record { held = one.mode; entry = Contains-there one (record { owner = owner; mode = stronger mode holder.mode }) holders later; strong = λ e. e }
-    by Greater order (inl same) deeper = record { held = one.mode; entry = subst (Contains (holder ∷ with_holder owner mode holders)) same (Contains-here holder (with_holder owner mode holders)); strong = λ e. e }
+    by Greater order (inl same) deeper = record { held = one.mode; entry = subst
+            (Contains (holder ∷ with_holder owner mode holders)) same
+            (Contains-here holder (with_holder owner mode holders)); strong = λ e. e }
     by Greater order (inr later) deeper =
         let s = deeper later in
         record { held = s.held; entry = Contains-there (record { owner = one.owner; mode = s.held }) holder (with_holder owner mode holders) s.entry; strong = s.strong }

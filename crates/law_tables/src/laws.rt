@@ -45,7 +45,8 @@ pub fn the_first_conflict_is_the_first_block()
 /// history that goes on so.
 pub fn a_grant_is_in_the_table()
     ensures { (past : History) (t k p : ℕ) (list : List Lock) (table new : HeldLocks) → IsTrue (is_live t past) → IsTableOf past table
-        → ((name : LockName) → holders_of new name ≡ with_locks list t name (holders_of table name)) → IsTableOf (Granted t k p list ∷ past) new }
+        → ((name : LockName) → holders_of new name ≡ with_locks list t name (holders_of table name))
+        → IsTableOf (Granted t k p list ∷ past) new }
 {}
 
 /// After a transaction commits or is aborted, the table without it is the table of the history.
@@ -63,8 +64,8 @@ pub fn other_events_leave_the_table()
         → ((name : LockName) → holders_of new name ≡ holders_of table name) → IsTableOf (Begun t session k ∷ past) new }
     ensures answered { (past : History) (t k : ℕ) (answer : Answer) (table new : HeldLocks) → IsTableOf past table
         → ((name : LockName) → holders_of new name ≡ holders_of table name) → IsTableOf (Answered t k answer ∷ past) new }
-    ensures refused { (past : History) (t k p : ℕ) (lock : LockName) (mode : Mode) (holder : ℕ) (table new : HeldLocks) → IsTableOf past table
-        → ((name : LockName) → holders_of new name ≡ holders_of table name) → IsTableOf (Refused t k p lock mode holder ∷ past) new }
+    ensures refused { (past : History) (t k p : ℕ) (lock : LockName) (mode : Mode) (holder : ℕ) (table new : HeldLocks)
+        → IsTableOf past table → ((name : LockName) → holders_of new name ≡ holders_of table name) → IsTableOf (Refused t k p lock mode holder ∷ past) new }
     ensures gave_up { (past : History) (t k : ℕ) (table new : HeldLocks) → IsTableOf past table
         → ((name : LockName) → holders_of new name ≡ holders_of table name) → IsTableOf (GaveUp t k ∷ past) new }
 {}

@@ -255,7 +255,8 @@ module _ (past : History) (live : List ℕ) (reserved : List StatementKey) (begu
       → is_begun event ≡ false → committed' ≡ count_by is_committed (event ∷ past) → committed' ≤ committed + 1
       → IsCounted (event ∷ past) (live_without t live) (reserved_without_all_of t reserved) begun committed'
   ended t committed' event own is_alive dead no_begin counts few = record {
-    listed = λ u. listed-without t u live ∙ ap (λ b. not (u == t) && b) (old.listed u) ∙ sym (subst (λ v. is_live u (event ∷ past) ≡ (not (u == v) && is_live u past)) own (live-ended event past dead u));
+    listed = λ u. listed-without t u live ∙ ap (λ b. not (u == t) && b) (old.listed u) ∙ sym
+            (subst (λ v. is_live u (event ∷ past) ≡ (not (u == v) && is_live u past)) own (live-ended event past dead u));
     open_reserved = open-later event past reserved (reserved_without_all_of t reserved) old.open_reserved
         (λ u j other is. reserved-stays_all t u j reserved (λ at. other (own ∙ sym at)) is)
         (λ still j is. absurd (false≢true (sym dead ∙ still)));
@@ -272,7 +273,9 @@ module _ (past : History) (live : List ℕ) (reserved : List StatementKey) (begu
 
   pub counted-committed : (t number : ℕ) → IsTrue (is_live t past)
       → IsCounted (Committed t number ∷ past) (live_without t live) (reserved_without_all_of t reserved) begun (committed + 1)
-  counted-committed t number alive = ended t (committed + 1) (Committed t number) refl alive (no_life (begun_at (events_of t past))) refl (count-next is_committed (Committed t number) past committed refl old.committed_counted) (omega arith)
+  counted-committed t number alive = ended t (committed + 1) (Committed t number) refl alive
+          (no_life (begun_at (events_of t past))) refl (count-next is_committed
+          (Committed t number) past committed refl old.committed_counted) (omega arith)
 
   pub counted-reserved : (t k : ℕ) → IsCounted past live (reserved_with t k reserved) begun committed
   counted-reserved t k = record {

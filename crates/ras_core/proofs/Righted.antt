@@ -45,7 +45,7 @@ module _ (workload : Workload) (kept : LockName → Option Kept) (past : History
         (
           statements_in_script place.script,
           subst (λ scripts. nth session scripts ≡ Some (statements_in_script place.script)) (sym are.scripts)
-              (nth-map statements_in_script session workload.scripts.items place.script place.there),
+              (nth-map statements_in_script session workload.scripts place.script place.there),
           place.some,
           simp length-map place.within,
         ),

@@ -34,14 +34,14 @@ FIRST_IDENTIFIERS = MAX_FIRST_IDENTIFIER + MAX_STATEMENTS
 pub record AreProgramsOf (workload : Workload) (programs : Programs) : Type 0 where
   pub types : programs.types ≡ workload.types
   pub base : Keeps programs.types (store_kept workload.base) programs.base
-  pub scripts : programs.scripts ≡ map statements_in_script workload.scripts.items
+  pub scripts : programs.scripts ≡ map statements_in_script workload.scripts
   pub are : ArePrograms programs FIRST_IDENTIFIERS
   pub short : AreShort programs MAX_STATEMENTS
 
 -- the session exists, and this is a place in its script
 pub record IsPlaceIn (workload : Workload) (session k : ℕ) : Type 0 where
   pub script : Script
-  pub there : nth session workload.scripts.items ≡ Some script
+  pub there : nth session workload.scripts ≡ Some script
   pub some : 1 ≤ k
   pub within : k ≤ length script.statements
 

@@ -43,7 +43,8 @@ all-with_holder P owner mode [] here rest = (here, tt)
 all-with_holder P owner mode (holder ∷ holders) here rest =
     by (nat_cmp owner holder.owner) (all-with_holder P owner mode holders here rest.1)
   where
-    by : (o : Ordering) → AllByRecursion (λ (one : Holder). P one.owner) (with_holder owner mode holders) → AllByRecursion (λ (one : Holder). P one.owner) (match_ordering o (record { owner = owner; mode = mode } ∷ holder ∷ holders)
+    by : (o : Ordering) → AllByRecursion (λ (one : Holder). P one.owner) (with_holder owner mode holders) → AllByRecursion
+            (λ (one : Holder). P one.owner) (match_ordering o (record { owner = owner; mode = mode } ∷ holder ∷ holders)
         (record { owner = owner; mode = stronger mode holder.mode } ∷ holders) (holder ∷ with_holder owner mode holders))
     by Less later = (here, rest)
     by Equal later = (here, rest.1)
@@ -77,7 +78,8 @@ sorted-with_holder owner mode (holder ∷ holders) sorted =
 pub sorted-with_locks : (list : List (LockName × Mode)) (owner : ℕ) (name : LockName) (holders : List Holder) → IsStrictlySortedBy by_owner holders
     → IsStrictlySortedBy by_owner (with_locks list owner name holders)
 sorted-with_locks [] owner name holders sorted = sorted
-sorted-with_locks (lock ∷ locks) owner name holders sorted = sorted-with_locks locks owner name (if equals_lock_name lock.0 name then with_holder owner lock.1 holders else holders) (by (equals_lock_name lock.0 name))
+sorted-with_locks (lock ∷ locks) owner name holders sorted = sorted-with_locks locks owner name
+        (if equals_lock_name lock.0 name then with_holder owner lock.1 holders else holders) (by (equals_lock_name lock.0 name))
   where
     by : (b : Bool) → IsStrictlySortedBy by_owner (if b then with_holder owner lock.1 holders else holders)
     by true = sorted-with_holder owner lock.1 holders sorted
@@ -91,7 +93,10 @@ among-with_holder other owner mode (holder ∷ holders) has = by (nat_cmp owner 
     later : is_among other holders ≡ true → is_among other (holder ∷ holders) ≡ true
     later e = or_right (eqb holder.owner other) (is_among other holders) e
 
-    by : (o : Ordering) → (is_among other (with_holder owner mode holders) ≡ true → (owner ≡ other) ⊎ (is_among other holders ≡ true)) → is_among other (match_ordering o (record { owner = owner; mode = mode } ∷ holder ∷ holders) (record { owner = owner; mode = stronger mode holder.mode } ∷ holders)
+    by : (o : Ordering) → (is_among other (with_holder owner mode holders) ≡ true → (owner ≡ other) ⊎
+            (is_among other holders ≡ true)) → is_among other (match_ordering o
+            (record { owner = owner; mode = mode } ∷ holder ∷ holders)
+            (record { owner = owner; mode = stronger mode holder.mode } ∷ holders)
         (holder ∷ with_holder owner mode holders)) ≡ true → (owner ≡ other) ⊎ (is_among other (holder ∷ holders) ≡ true)
     by Less deeper e = elim (or_cases (eqb owner other) (is_among other (holder ∷ holders)) e) [ inl k ↦ inl (eqb-true owner other k) | inr k ↦ inr k ]
     by Equal deeper e = elim (or_cases (eqb owner other) (is_among other holders) e) [ inl k ↦ inl (eqb-true owner other k) | inr k ↦ inr (later k) ]
@@ -124,7 +129,9 @@ among-with_locks (lock ∷ locks) other owner name holders has =
 -- who is among the holders once an owner is taken from them
 pub among-without : (other owner : ℕ) (holders : List Holder) → is_among other (without_owner owner holders) ≡ true → (eqb owner other ≡ false) × (is_among other holders ≡ true)
 among-without other owner holders has =
-    let both = and_parts (not (eqb other owner)) (is_among other holders) (sym (any-filter_same (λ (one : Holder). eqb one.owner other) (λ (one : Holder). not (eqb one.owner owner)) (not (eqb other owner))
+    let both = and_parts (not (eqb other owner)) (is_among other holders)
+            (sym (any-filter_same (λ (one : Holder). eqb one.owner other) (λ (one : Holder). not (eqb one.owner owner))
+            (not (eqb other owner))
     (λ one e. ap (λ n. not (eqb n owner)) (eqb-true one.owner other e)) holders) ∙ has) in
     (turn (eqb owner other) refl (not-true (eqb other owner) both.0), both.1)
   where
@@ -136,7 +143,8 @@ pub without-none : (owner : ℕ) (holders : List Holder) → is_among owner hold
 without-none owner [] absent = refl
 without-none owner (holder ∷ holders) absent = by (eqb holder.owner owner) (λ e. without-none owner holders e) absent
   where
-    by : (b : Bool) → (is_among owner holders ≡ false → without_owner owner holders ≡ holders) → (b || is_among owner holders) ≡ false → cond (not b) (holder ∷ without_owner owner holders) (without_owner owner holders) ≡ holder ∷ holders
+    by : (b : Bool) → (is_among owner holders ≡ false → without_owner owner holders ≡ holders) → (b || is_among owner holders)
+            ≡ false → cond (not b) (holder ∷ without_owner owner holders) (without_owner owner holders) ≡ holder ∷ holders
     by true later e = absurd cc
     by false later e = ap (λ others. holder ∷ others) (later e)
 

@@ -60,10 +60,12 @@ with_holder-raised owner mode (holder ∷ holders) has =
     (λ is le ne. absurd (let no : false ≡ true = sym (chosen _ Less false true (has_place owner holders) is) ∙ has in cc))
     (λ is le eq. ap (raised mode (holder ∷ holders)) (place_here owner holder holders le)
     ∙ ap (λ n. record { owner = n; mode = stronger mode holder.mode } ∷ holders) (eqb-true holder.owner owner eq)
-    ∙ sym (chosen _ Equal (record { owner = owner; mode = mode } ∷ holder ∷ holders) (record { owner = owner; mode = stronger mode holder.mode } ∷ holders) (holder ∷ with_holder owner mode holders) is))
+    ∙ sym (chosen _ Equal (record { owner = owner; mode = mode } ∷ holder ∷ holders)
+            (record { owner = owner; mode = stronger mode holder.mode } ∷ holders) (holder ∷ with_holder owner mode holders) is))
     (λ is more. ap (raised mode (holder ∷ holders)) (place_later owner holder holders more)
     ∙ ap (λ others. holder ∷ others) (with_holder-raised owner mode holders (sym (chosen _ Greater false true (has_place owner holders) is) ∙ has))
-    ∙ sym (chosen _ Greater (record { owner = owner; mode = mode } ∷ holder ∷ holders) (record { owner = owner; mode = stronger mode holder.mode } ∷ holders) (holder ∷ with_holder owner mode holders) is))
+    ∙ sym (chosen _ Greater (record { owner = owner; mode = mode } ∷ holder ∷ holders)
+            (record { owner = owner; mode = stronger mode holder.mode } ∷ holders) (holder ∷ with_holder owner mode holders) is))
 
 -- and one that has none is put there
 pub with_holder-inserted : (owner : ℕ) (mode : Mode) (holders : List Holder) → has_place owner holders ≡ false
@@ -72,11 +74,13 @@ with_holder-inserted owner mode [] has = refl
 with_holder-inserted owner mode (holder ∷ holders) has =
     by_order _ owner holder.owner
     (λ is le ne. ap (λ n. insert (holder ∷ holders) n (record { owner = owner; mode = mode })) (place_here owner holder holders le)
-    ∙ sym (chosen _ Less (record { owner = owner; mode = mode } ∷ holder ∷ holders) (record { owner = owner; mode = stronger mode holder.mode } ∷ holders) (holder ∷ with_holder owner mode holders) is))
+    ∙ sym (chosen _ Less (record { owner = owner; mode = mode } ∷ holder ∷ holders)
+            (record { owner = owner; mode = stronger mode holder.mode } ∷ holders) (holder ∷ with_holder owner mode holders) is))
     (λ is le eq. absurd (let no : true ≡ false = sym (chosen _ Equal false true (has_place owner holders) is) ∙ has in cc))
     (λ is more. ap (λ n. insert (holder ∷ holders) n (record { owner = owner; mode = mode })) (place_later owner holder holders more)
     ∙ ap (λ others. holder ∷ others) (with_holder-inserted owner mode holders (sym (chosen _ Greater false true (has_place owner holders) is) ∙ has))
-    ∙ sym (chosen _ Greater (record { owner = owner; mode = mode } ∷ holder ∷ holders) (record { owner = owner; mode = stronger mode holder.mode } ∷ holders) (holder ∷ with_holder owner mode holders) is))
+    ∙ sym (chosen _ Greater (record { owner = owner; mode = mode } ∷ holder ∷ holders)
+            (record { owner = owner; mode = stronger mode holder.mode } ∷ holders) (holder ∷ with_holder owner mode holders) is))
 
 -- an owner that was put among the holders has its place
 pub has_place-with_holder : (owner : ℕ) (mode : Mode) (holders : List Holder) → has_place owner (with_holder owner mode holders) ≡ true
@@ -85,7 +89,8 @@ has_place-with_holder owner mode (holder ∷ holders) =
     by_order _ owner holder.owner
     (λ is le ne. ap (has_place owner) (chosen _ Less here raise later is) ∙ own_place owner (has_place owner (holder ∷ holders)))
     (λ is le eq. ap (has_place owner) (chosen _ Equal here raise later is) ∙ own_place owner (has_place owner holders))
-    (λ is more. ap (has_place owner) (chosen _ Greater here raise later is) ∙ chosen _ Greater false true (has_place owner (with_holder owner mode holders)) is ∙ has_place-with_holder owner mode holders)
+    (λ is more. ap (has_place owner) (chosen _ Greater here raise later is) ∙ chosen _ Greater false true
+            (has_place owner (with_holder owner mode holders)) is ∙ has_place-with_holder owner mode holders)
   where
     here : List Holder
     here = record { owner = owner; mode = mode } ∷ holder ∷ holders

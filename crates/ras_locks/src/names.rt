@@ -44,7 +44,8 @@ pub(crate) fn make_room(alloc: Global, names: &mut Names, name: &LockName) -> Re
 pub(crate) fn hold_at(names: &mut Names, name: &LockName, owner: u32, mode: Mode)
     requires { IsReadyAt names.old.entries name.now owner }
     ensures holders { (other : Named) → holders_in names.new.entries other
-        ≡ (if equals_lock_name name.now other then with_holder owner mode (holders_in names.old.entries other) else holders_in names.old.entries other) }
+        ≡ (if equals_lock_name name.now other then with_holder owner mode (holders_in names.old.entries other)
+        else holders_in names.old.entries other) }
     ensures kept { (other : Named) → IsReadyAt names.old.entries other owner → IsReadyAt names.new.entries other owner }
 {
     match names.get_mut(name) {
@@ -67,7 +68,8 @@ pub(crate) fn hold_all(names: &mut Names, list: &LockList, owner: u32)
 /// Takes an owner from the holders of a lock.
 fn take_out(names: &mut Names, name: &LockName, owner: u32)
     ensures { (other : Named) → holders_in names.new.entries other
-        ≡ (if equals_lock_name name.now other then without_owner owner (holders_in names.old.entries other) else holders_in names.old.entries other) }
+        ≡ (if equals_lock_name name.now other then without_owner owner (holders_in names.old.entries other)
+        else holders_in names.old.entries other) }
 {
     match names.get_mut(name) {
         Some(holders) => let_go(holders, owner),
@@ -87,7 +89,8 @@ fn drop_empty(names: &mut Names, name: &LockName)
 /// Takes an owner from the holders of a lock. An entry that has no holder then goes.
 fn let_go_at(names: &mut Names, name: &LockName, owner: u32)
     ensures { (other : Named) → holders_in names.new.entries other
-        ≡ (if equals_lock_name name.now other then without_owner owner (holders_in names.old.entries other) else holders_in names.old.entries other) }
+        ≡ (if equals_lock_name name.now other then without_owner owner (holders_in names.old.entries other)
+        else holders_in names.old.entries other) }
 {
     take_out(names, name, owner);
     drop_empty(names, name);
@@ -96,7 +99,8 @@ fn let_go_at(names: &mut Names, name: &LockName, owner: u32)
 /// Takes an owner from the holders of these locks.
 pub(crate) fn let_go_all(names: &mut Names, listed: &[LockName], owner: u32)
     ensures { (other : Named) → holders_in names.new.entries other
-        ≡ (if lists_name other listed.now then without_owner owner (holders_in names.old.entries other) else holders_in names.old.entries other) }
+        ≡ (if lists_name other listed.now then without_owner owner (holders_in names.old.entries other)
+        else holders_in names.old.entries other) }
 {
     for name in listed {
         let_go_at(names, name, owner);

@@ -28,7 +28,8 @@ pub(crate) fn list_name(
     name: &LockName,
     owner: u32,
 ) -> Result<(), AllocError>
-    ensures kept { (other : ℕ) (one : Named) → lists_name one (names_in owners.old.entries other) ≡ true → lists_name one (names_in owners.new.entries other) ≡ true }
+    ensures kept { (other : ℕ) (one : Named) → lists_name one (names_in owners.old.entries other) ≡ true
+        → lists_name one (names_in owners.new.entries other) ≡ true }
     ensures listed { OnOk result (lists_name name.now (names_in owners.new.entries owner) ≡ true) }
 {
     let name = name.try_clone(alloc)?;

@@ -55,7 +55,8 @@ impl LockTable {
     /// The place of the first lock of a list that conflicts with a lock of another owner than the
     /// one who asks, and the least such owner. None where no lock of the list conflicts.
     pub fn first_conflict(&self, list: &LockList, owner: u32) -> Option<(usize, u32)>
-        ensures { MatchOption result (IsUncontested self.now list.now owner) (λ found. IsFirstConflict self.now list.now owner found.0 found.1) }
+        ensures { MatchOption result (IsUncontested self.now list.now owner)
+            (λ found. IsFirstConflict self.now list.now owner found.0 found.1) }
     {
         for place in 0..list.len() {
             let (name, mode) = list.get(place);

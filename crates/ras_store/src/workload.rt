@@ -1,4 +1,5 @@
 use crate::store::Store;
+use ras_domain::List;
 use ras_syntax::{Script, Types};
 
 /// What is to be run: the types, the database at the start, and the sessions' scripts.
@@ -6,5 +7,5 @@ use ras_syntax::{Script, Types};
 pub struct Workload {
     pub types: Types,
     pub base: Store,
-    pub scripts: Vec<Script>,
+    pub scripts: List<Script>,
 }

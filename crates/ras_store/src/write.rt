@@ -1,4 +1,4 @@
-use ras_domain::Region;
+use ras_domain::{List, Region};
 use ras_syntax::{CellList, RowList};
 
 /// What a statement does to one array.
@@ -18,5 +18,5 @@ pub struct Write {
 #[derive(Debug, Drop)]
 pub enum Computed {
     Rows(RowList),
-    Writes(Vec<Write>),
+    Writes(List<Write>),
 }

@@ -9,7 +9,9 @@ use Rattle.ras_locks.proofs.names.let_go_all.Goals as goal
 pub loop-name-preserved : goal.loop-name-preserved
 loop-name-preserved c = λ other.
     let first = holders_in c.args.names.now.entries other in
-    without-step (lists_name other (take c.loop-name.name-index c.args.listed.now)) (equals_lock_name c.name-item.result other) c.args.owner first _ _ (c.loop-name.invariant other) (c.let_go_at.ensures other)
+    without-step (lists_name other (take c.loop-name.name-index c.args.listed.now))
+            (equals_lock_name c.name-item.result other) c.args.owner first _ _ (c.loop-name.invariant other)
+            (c.let_go_at.ensures other)
     ∙ ap (λ b. if b then without_owner c.args.owner first else first)
     (sym (listed-more c.args.listed.now c.loop-name.name-index c.name-item.result other
     (slice_get_read c.args.listed.now (length c.args.listed.now) c.loop-name.name-index c.name-item.result refl c.loop-name-test.true c.name-item.is)))
