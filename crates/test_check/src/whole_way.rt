@@ -1,21 +1,12 @@
 //! The whole way from a text to a typed statement, as the README of `ras_check` shows it, and statements with many
 //! sources.
-ghost use Rattle.std.specs.Prelude.{IfOk, Ok};
-ghost use Rattle.spec_grammar.specs.Verdict.{IsVerdict};
-ghost use Rattle.spec_statements.specs.Statement.{statement_tree_of};
-ghost use Rattle.law_checks.specs.Statements.{IsWellTypedRequest};
-ghost use Rattle.ras_catalog.specs.CatalogView.{catalog_over};
-
-use crate::accepted::{Shown, kind_in};
+use crate::accepted::kind_in;
 use crate::told::{checked, types_of};
-use ras_cells::Atom;
-use ras_check::{CheckError, check, what_the_check_gives_is_well_typed};
+use ras_check::{CheckError, check};
 use ras_domain::Name;
 use ras_parse::parse_statement;
-use ras_syntax::{CheckFault, Checked, Span, Statement, Types};
-use spec_grammar::laws::statements_have_numbers_in_range;
+use ras_syntax::{CheckFault, Span};
 use std::alloc::{AllocError, Global};
-use std::process::Abort;
 use std::test::Fail;
 
 #[test]
@@ -27,36 +18,8 @@ fn a_text_becomes_a_typed_statement(rt: HostRuntime) -> Result<(), Fail> {
     let statement = parse_statement(alloc, text)?;
     let checked = check(alloc, &statement, &types, &collections)?;
     // An array of wide numbers with two axes.
-    assert_eq!(rt; kind_in(&checked.form), Some(Shown::Array(Atom::Wide, 2)));
-    Ok(())
-}
-
-/// The typed statement of a text's statement is well typed. Code above the check has this from the two laws that it calls.
-fn typed_statement(
-    alloc: Global,
-    text: &[u8],
-    statement: &Statement,
-    types: &Types,
-    collections: &[(Name, Option<u32>)],
-) -> Result<Checked, CheckError>
-    requires { IsVerdict text.now (Ok statement.now) }
-    ensures { IfOk result (λ checked. IsWellTypedRequest (catalog_over types.now collections.now) (statement_tree_of checked).request) }
-{
-    let checked = check(alloc, statement, types, collections)?;
-    statements_have_numbers_in_range();
-    what_the_check_gives_is_well_typed();
-    Ok(checked)
-}
-
-#[test]
-fn a_typed_statement_is_given(rt: HostRuntime) -> Result<(), Fail> {
-    let alloc = rt.alloc();
-    let types = types_of(alloc)?;
-    let collections = [(Name::of(alloc, b"G")?, Some(0))];
-    let text = b"drop collection G";
-    let statement = parse_statement(alloc, text)?;
-    let found = typed_statement(alloc, text, &statement, &types, &collections);
-    assert_eq!(rt; found.err(), None);
+    let kind = kind_in(alloc, &checked.form)?;
+    assert_eq!(rt; kind.as_str(), "Array { cell: Atom(Wide), axes: 2 }");
     Ok(())
 }
 
