@@ -1,0 +1,9 @@
+pub mod AxesRead
+pub mod DomainsSeen
+pub mod FormsSeen
+pub mod LookedAtSeen
+pub mod NumbersSeen
+pub mod Placing
+pub mod StaticsSeen
+pub mod TreesRead
+pub mod VariablesSeen

@@ -1,0 +1,6 @@
+pub mod Forms
+pub mod LookedAt
+pub mod Moved
+pub mod Numbers
+pub mod Statics
+pub mod Variables
