@@ -9,7 +9,7 @@ use Rattle.spec_expressions.specs.Tree.{Tree, Form, Axes, Domain, bounds, domain
 use Rattle.spec_expressions.specs.Eval.{axes_in, box_in, written_in}
 use Rattle.spec_expressions.specs.Shape.{Box, Shape, ShapeMisfit, box_of, shape_of, taken, written_of}
 use Rattle.ras_shape.specs.Trees.{domain_looked_at, pairs_seen}
-use Rattle.ras_reach.specs.Statics.{all_found, interval_found, items_or_none}
+use Rattle.ras_reach.specs.Statics.{all_found, interval_found, found_or_none}
 use Rattle.ras_reach.proofs.StaticsSeen.{bounds_are}
 
 literal_rolls : (d : TypedDomain) (ps : List (TypedExpr × TypedExpr)) → d ≡ typed.Literal ps → domain_looked_at d ≡ bounds (pairs_seen ps)
@@ -23,7 +23,7 @@ like_rolls d e is =
     ∙ fold-roll-TypedDomain (Axes → Axes) Domain Form Tree axis_tree_step domain_tree_step form_tree_step expr_tree_step (TypedDomain-F.«TypedDomain::Sdom» e)
 
 pub literal_box : (domains : List Box) (d : TypedDomain) (ps : List (TypedExpr × TypedExpr)) → d ≡ typed.Literal ps
-    → axes_in (written_in (written_of domains (domain_looked_at d))) ≡ items_or_none (all_found (interval_found domains) ps)
+    → axes_in (written_in (written_of domains (domain_looked_at d))) ≡ found_or_none (all_found (interval_found domains) ps)
 literal_box domains d ps is = ap (λ domain. axes_in (written_in (written_of domains domain))) (literal_rolls d ps is) ∙ bounds_are domains ps
 
 pub like_box : (domains : List Box) (d : TypedDomain) (e : TypedExpr) → d ≡ typed.Sdom e

@@ -52,4 +52,3 @@ index_axis s kind (node t k (variable x)) (position (node u l (number n atom)) n
 index_axis s kind (node t k (domain_of e)) (position (node u l (number n atom)) no_axes) = refl
 index_axis s kind e (position (node u l (variable x)) no_axes) = refl
 index_axis s kind e axes = refl
-

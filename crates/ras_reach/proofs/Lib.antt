@@ -3,7 +3,10 @@ pub mod DomainsSeen
 pub mod FormsSeen
 pub mod LookedAtSeen
 pub mod NumbersSeen
+pub mod PartsRead
 pub mod Placing
 pub mod StaticsSeen
 pub mod TreesRead
 pub mod VariablesSeen
+pub mod WalkForms
+pub mod Walking

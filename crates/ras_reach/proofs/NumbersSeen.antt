@@ -26,7 +26,7 @@ pub part_bounded : (domains : List Box) (boxes : Boxes) (kind : Kind) (e : Tree)
     → form_bound domains boxes kind (part_form e part) ≡ part_bound_of (part_told part (is_axis_of_domain e)) kind (box_in (shape_of domains e))
 part_bounded domains boxes kind (node s k (interval_of e n)) (parts.Named name) =
     elim (is_same_name name (codes "lo")) as (λ b. form_bound domains boxes kind (if b then bound_of lower e n else bound_of upper e n)
-      ≡ part_bound_of (if b then Lower else Upper) kind (box_in (shape_of domains (node s k (interval_of e n)))))
+    ≡ part_bound_of (if b then Lower else Upper) kind (box_in (shape_of domains (node s k (interval_of e n)))))
     [ true ↦ ap number_alone (bound_first domains s k e n lower) | false ↦ ap number_alone (bound_first domains s k e n upper) ]
 part_bounded domains boxes kind e (parts.Named name) = refl
 part_bounded domains boxes kind e (parts.Numbered n) = refl

@@ -22,53 +22,52 @@ use Rattle.ras_shape.specs.Ways.{is_axis_of_domain}
 use Rattle.ras_shape.proofs.Indexing.{index-value}
 use Rattle.ras_reach.specs.declared.forms.PartForm.TheVariants.{Component, Lower, Upper}
 use Rattle.ras_reach.specs.Forms.{part_told}
-use Rattle.ras_reach.specs.Statics.{all_found, found_after, interval_between, interval_found, items_or_none, number_found, part_value_of, with_item}
+use Rattle.ras_reach.specs.Statics.{all_found, all_found_after, interval_between, interval_found, found_or_none, number_found, part_value_of, with_found}
 
 -- ---- loops
 
-after_some : {A : Type 0} (before : List A) (x : A) (others : Option (List A)) → found_after before (with_item (Some x) others) ≡ found_after (before ++ x ∷ []) others
+after_some : {A : Type 0} (before : List A) (x : A) (others : Option (List A)) → all_found_after before (with_found (Some x) others) ≡ all_found_after (before ++ x ∷ []) others
 after_some before x None = refl
 after_some before x (Some xs) = ap (λ all. Some all) (sym (append_assoc before (x ∷ []) xs))
 
-pub found_first : {X A : Type 0} (find : X → Option A) (xs : List X) → found_after [] (all_found find xs) ≡ all_found find xs
+pub found_first : {X A : Type 0} (find : X → Option A) (xs : List X) → all_found_after [] (all_found find xs) ≡ all_found find xs
 found_first find xs = same (all_found find xs) where
-  same : {A : Type 0} (o : Option (List A)) → found_after [] o ≡ o
+  same : {A : Type 0} (o : Option (List A)) → all_found_after [] o ≡ o
   same None = refl
   same (Some ys) = refl
 
 -- one more item is found
 pub found_turn : {X A : Type 0} (find : X → Option A) (before : List A) (y : A) (xs : List X) (i : ℕ) (d : X) (w : Option (List A))
-    → i < length xs → find (get_or xs i d) ≡ Some y → found_after before (all_found find (drop i xs)) ≡ w → found_after (before ++ y ∷ []) (all_found find (drop (i + 1) xs)) ≡ w
+    → i < length xs → find (get_or xs i d) ≡ Some y → all_found_after before (all_found find (drop i xs)) ≡ w → all_found_after (before ++ y ∷ []) (all_found find (drop (i + 1) xs)) ≡ w
 found_turn find before y xs i d w within is so_far =
     sym (after_some before y (all_found find (drop (i + 1) xs)))
-    ∙ ap (λ o. found_after before (with_item o (all_found find (drop (i + 1) xs)))) (sym is)
-    ∙ sym (at_drop_more (λ rest. found_after before (all_found find rest)) xs i d within) ∙ so_far
+    ∙ ap (λ o. all_found_after before (with_found o (all_found find (drop (i + 1) xs)))) (sym is)
+    ∙ sym (at_drop_more (λ rest. all_found_after before (all_found find rest)) xs i d within) ∙ so_far
 
 -- nothing is found of an item, and so of all
 pub found_stop : {X A : Type 0} (find : X → Option A) (before : List A) (xs : List X) (i : ℕ) (d : X) (w : Option (List A))
-    → i < length xs → find (get_or xs i d) ≡ None → found_after before (all_found find (drop i xs)) ≡ w → w ≡ None
+    → i < length xs → find (get_or xs i d) ≡ None → all_found_after before (all_found find (drop i xs)) ≡ w → w ≡ None
 found_stop find before xs i d w within is so_far =
-    sym so_far ∙ at_drop_more (λ rest. found_after before (all_found find rest)) xs i d within
-    ∙ ap (λ o. found_after before (with_item o (all_found find (drop (i + 1) xs)))) is
+    sym so_far ∙ at_drop_more (λ rest. all_found_after before (all_found find rest)) xs i d within
+    ∙ ap (λ o. all_found_after before (with_found o (all_found find (drop (i + 1) xs)))) is
 
 pub found_end : {X A : Type 0} (find : X → Option A) (before : List A) (xs : List X) (i : ℕ) (w : Option (List A))
-    → length xs ≤ i → found_after before (all_found find (drop i xs)) ≡ w → w ≡ Some before
+    → length xs ≤ i → all_found_after before (all_found find (drop i xs)) ≡ w → w ≡ Some before
 found_end find before xs i w over so_far =
-    sym so_far ∙ at_drop_all (λ rest. found_after before (all_found find rest)) xs i over ∙ ap (λ all. Some all) (append-nil before)
+    sym so_far ∙ at_drop_all (λ rest. all_found_after before (all_found find rest)) xs i over ∙ ap (λ all. Some all) (append-nil before)
 
 -- ---- offsets
 
-offsets_value : Result (List Bound) ShapeMisfit → Option (List ℤ)
+abbrev offsets_value : Result (List Bound) ShapeMisfit → Option (List ℤ)
 offsets_value (Ok values) = values_of values
 offsets_value (Err misfit) = None
 
-with_value-is : (z : ℤ) (o : Option (List ℤ)) → with_value z o ≡ with_item (Some z) o
+with_value-is : (z : ℤ) (o : Option (List ℤ)) → with_value z o ≡ with_found (Some z) o
 with_value-is z None = refl
 with_value-is z (Some zs) = refl
 
 offset_step : (r : Result Shape ShapeMisfit) (v : Bound) (rest : Result (List Bound) ShapeMisfit)
-    → offsets_value (r >>= λ inner. rest >>= λ values. Ok (v ∷ values)) ≡ with_item (if is_ok r then result_ok v else None) (offsets_value rest)
-unfolding offsets_value
+    → offsets_value (r >>= λ inner. rest >>= λ values. Ok (v ∷ values)) ≡ with_found (if is_ok r then result_ok v else None) (offsets_value rest)
 offset_step (Ok x) (Ok z) (Ok values) = with_value-is z (values_of values)
 offset_step (Ok x) (Ok z) (Err misfit) = refl
 offset_step (Ok x) (Err fault) (Ok values) = refl
@@ -76,21 +75,18 @@ offset_step (Ok x) (Err fault) (Err misfit) = refl
 offset_step (Err misfit) v rest = refl
 
 offsets_found : (domains : List Box) (es : List TypedExpr) → offsets_value (offsets_of domains (trees_seen es)) ≡ all_found (number_found domains) es
-offsets_found domains [] = first where
-  first : offsets_value (Ok []) ≡ Some []
-  unfolding offsets_value
-  first = refl
+offsets_found domains [] = refl
 offsets_found domains (e ∷ es) =
     offset_step (shape_of domains (tree_of e)) (static_of domains (tree_of e)) (offsets_of domains (trees_seen es))
-    ∙ ap (with_item (number_found domains e)) (offsets_found domains es)
+    ∙ ap (with_found (number_found domains e)) (offsets_found domains es)
 
-pub offsets_are : (domains : List Box) (es : List TypedExpr) → offsets_in (offsets_of domains (trees_seen es)) ≡ items_or_none (all_found (number_found domains) es)
-offsets_are domains es = by_value (offsets_of domains (trees_seen es)) ∙ ap items_or_none (offsets_found domains es) where
-  by_option : (o : Option (List ℤ)) → numbers_or_none o ≡ items_or_none o
+pub offsets_are : (domains : List Box) (es : List TypedExpr) → offsets_in (offsets_of domains (trees_seen es)) ≡ found_or_none (all_found (number_found domains) es)
+offsets_are domains es = by_value (offsets_of domains (trees_seen es)) ∙ ap found_or_none (offsets_found domains es) where
+  by_option : (o : Option (List ℤ)) → numbers_or_none o ≡ found_or_none o
   by_option None = refl
   by_option (Some zs) = refl
-  by_value : (r : Result (List Bound) ShapeMisfit) → offsets_in r ≡ items_or_none (offsets_value r)
-  unfolding offsets_value
+
+  by_value : (r : Result (List Bound) ShapeMisfit) → offsets_in r ≡ found_or_none (offsets_value r)
   by_value (Ok values) = by_option (values_of values)
   by_value (Err misfit) = refl
 
@@ -109,7 +105,7 @@ abbrev end_found : Bound × Bound → Option Interval
 end_found both = interval_between (result_ok both.0) (result_ok both.1)
 
 kept_between : (empty broken_rest empty_rest : Bool) (x : Interval) (axes : Box)
-    → kept_where (false || broken_rest) (empty || empty_rest) (x ∷ axes) ≡ with_item (if true && not empty then Some x else None) (kept_where broken_rest empty_rest axes)
+    → kept_where (false || broken_rest) (empty || empty_rest) (x ∷ axes) ≡ with_found (if true && not empty then Some x else None) (kept_where broken_rest empty_rest axes)
 kept_between true true empty_rest x axes = refl
 kept_between true false empty_rest x axes = refl
 kept_between false true empty_rest x axes = refl
@@ -118,8 +114,8 @@ kept_between false false false x axes = refl
 
 kept_step : (lo hi : ℤ) (small : Bool) (cuts : List Cut) (broken_rest empty_rest : Bool)
     → kept_where (is_broken (if small then between lo hi else broken) || broken_rest) (is_empty_cut (if small then between lo hi else broken) || empty_rest)
-      (kept_axes ((if small then between lo hi else broken) ∷ cuts))
-      ≡ with_item (if small && not (int_lt hi lo) then Some (record { lo = lo; hi = hi }) else None) (kept_where broken_rest empty_rest (kept_axes cuts))
+    (kept_axes ((if small then between lo hi else broken) ∷ cuts))
+    ≡ with_found (if small && not (int_lt hi lo) then Some (record { lo = lo; hi = hi }) else None) (kept_where broken_rest empty_rest (kept_axes cuts))
 kept_step lo hi true cuts broken_rest empty_rest = kept_between (int_lt hi lo) broken_rest empty_rest (record { lo = lo; hi = hi }) (kept_axes cuts)
 kept_step lo hi false cuts broken_rest empty_rest = refl
 
@@ -127,7 +123,7 @@ ends_are : (ends : List (Bound × Bound)) → ends_kept ends ≡ all_found end_f
 ends_are [] = refl
 ends_are ((Ok lo, Ok hi) ∷ ends) =
     kept_step lo hi (is_small lo && is_small hi) (map cut_of ends) (list_any is_broken (map cut_of ends)) (list_any is_empty_cut (map cut_of ends))
-    ∙ ap (with_item (end_found (Ok lo, Ok hi))) (ends_are ends)
+    ∙ ap (with_found (end_found (Ok lo, Ok hi))) (ends_are ends)
 ends_are ((Ok lo, Err fault) ∷ ends) = refl
 ends_are ((Err fault, hi) ∷ ends) = refl
 
@@ -135,17 +131,17 @@ abbrev box_value : Result (List (Bound × Bound)) ShapeMisfit → Option Box
 box_value (Ok ends) = all_found end_found ends
 box_value (Err misfit) = None
 
-with_none : {A : Type 0} (o : Option A) → None ≡ with_item o None
+with_none : {A : Type 0} (o : Option A) → None ≡ with_found o None
 with_none None = refl
 with_none (Some x) = refl
 
-between_none : (o : Option ℤ) (others : Option Box) → None ≡ with_item (interval_between o None) others
+between_none : (o : Option ℤ) (others : Option Box) → None ≡ with_found (interval_between o None) others
 between_none None others = refl
 between_none (Some z) others = refl
 
 bounds_step : (a b : Result Shape ShapeMisfit) (lo hi : Bound) (rest : Result (List (Bound × Bound)) ShapeMisfit)
     → box_value (a >>= λ x. b >>= λ y. rest >>= λ values. Ok ((lo, hi) ∷ values))
-      ≡ with_item (interval_between (if is_ok a then result_ok lo else None) (if is_ok b then result_ok hi else None)) (box_value rest)
+    ≡ with_found (interval_between (if is_ok a then result_ok lo else None) (if is_ok b then result_ok hi else None)) (box_value rest)
 bounds_step (Ok x) (Ok y) lo hi (Ok values) = refl
 bounds_step (Ok x) (Ok y) lo hi (Err misfit) = with_none (interval_between (result_ok lo) (result_ok hi))
 bounds_step (Ok x) (Err misfit) lo hi rest = between_none (result_ok lo) (box_value rest)
@@ -155,22 +151,22 @@ bounds_found : (domains : List Box) (ps : List (TypedExpr × TypedExpr)) → box
 bounds_found domains [] = refl
 bounds_found domains (p ∷ ps) =
     bounds_step (shape_of domains (tree_of p.0)) (shape_of domains (tree_of p.1)) (static_of domains (tree_of p.0)) (static_of domains (tree_of p.1)) (bounds_of domains (pairs_seen ps))
-    ∙ ap (with_item (interval_found domains p)) (bounds_found domains ps)
+    ∙ ap (with_found (interval_found domains p)) (bounds_found domains ps)
 
 chosen : (span : Span) (is_broken_one is_empty_one : Bool) (axes : Box)
-    → axes_in (if is_broken_one then Err (span, BoundOut) else if is_empty_one then Err (span, EmptyDomain) else Ok axes) ≡ items_or_none (kept_where is_broken_one is_empty_one axes)
+    → axes_in (if is_broken_one then Err (span, BoundOut) else if is_empty_one then Err (span, EmptyDomain) else Ok axes) ≡ found_or_none (kept_where is_broken_one is_empty_one axes)
 chosen span true is_empty_one axes = refl
 chosen span false true axes = refl
 chosen span false false axes = refl
 
-written_ends : (span : Span) (ends : List (Bound × Bound)) → axes_in (written_box span (literal ends)) ≡ items_or_none (all_found end_found ends)
+written_ends : (span : Span) (ends : List (Bound × Bound)) → axes_in (written_box span (literal ends)) ≡ found_or_none (all_found end_found ends)
 written_ends span ends =
-    chosen span (list_any is_broken (map cut_of ends)) (list_any is_empty_cut (map cut_of ends)) (kept_axes (map cut_of ends)) ∙ ap items_or_none (ends_are ends)
+    chosen span (list_any is_broken (map cut_of ends)) (list_any is_empty_cut (map cut_of ends)) (kept_axes (map cut_of ends)) ∙ ap found_or_none (ends_are ends)
 
 pub bounds_are : (domains : List Box) (ps : List (TypedExpr × TypedExpr))
-    → axes_in (written_in (written_of domains (bounds (pairs_seen ps)))) ≡ items_or_none (all_found (interval_found domains) ps)
-bounds_are domains ps = by_value (bounds_of domains (pairs_seen ps)) ∙ ap items_or_none (bounds_found domains ps) where
-  by_value : (r : Result (List (Bound × Bound)) ShapeMisfit) → axes_in (written_in (r >>= λ values. Ok (literal values))) ≡ items_or_none (box_value r)
+    → axes_in (written_in (written_of domains (bounds (pairs_seen ps)))) ≡ found_or_none (all_found (interval_found domains) ps)
+bounds_are domains ps = by_value (bounds_of domains (pairs_seen ps)) ∙ ap found_or_none (bounds_found domains ps) where
+  by_value : (r : Result (List (Bound × Bound)) ShapeMisfit) → axes_in (written_in (r >>= λ values. Ok (literal values))) ≡ found_or_none (box_value r)
   by_value (Ok ends) = written_ends (record { from = 0; to = 0 }) ends
   by_value (Err misfit) = refl
 
@@ -196,7 +192,7 @@ pub part_static : (domains : List Box) (e : Tree) (part : Part)
     → static_form domains (part_form e part) ≡ part_value_of (part_told part (is_axis_of_domain e)) (box_in (shape_of domains e))
 part_static domains (node s k (interval_of e n)) (parts.Named name) =
     elim (is_same_name name (codes "lo")) as (λ b. static_form domains (if b then bound_of lower e n else bound_of upper e n)
-      ≡ part_value_of (if b then Lower else Upper) (box_in (shape_of domains (node s k (interval_of e n)))))
+    ≡ part_value_of (if b then Lower else Upper) (box_in (shape_of domains (node s k (interval_of e n)))))
     [ true ↦ bound_first domains s k e n lower | false ↦ bound_first domains s k e n upper ]
 part_static domains e (parts.Named name) = refl
 part_static domains e (parts.Numbered n) = refl

@@ -34,9 +34,9 @@ module _ (domains : List Box) (boxes : Boxes) (around : Box) where
   pairs_turn ps i d done first after w within one two so_far =
       ap (λ reached. reached ++ pairs_reach domains boxes (pairs_seen (drop (i + 1) ps)) around)
       (two ∙ ap (λ reached. reached ++ reach_of domains boxes (tree_of (get_or ps i d).1) around) one
-       ∙ append_assoc done (reach_of domains boxes (tree_of (get_or ps i d).0) around) (reach_of domains boxes (tree_of (get_or ps i d).1) around))
+      ∙ append_assoc done (reach_of domains boxes (tree_of (get_or ps i d).0) around) (reach_of domains boxes (tree_of (get_or ps i d).1) around))
       ∙ append_assoc done (reach_of domains boxes (tree_of (get_or ps i d).0) around ++ reach_of domains boxes (tree_of (get_or ps i d).1) around)
-        (pairs_reach domains boxes (pairs_seen (drop (i + 1) ps)) around)
+      (pairs_reach domains boxes (pairs_seen (drop (i + 1) ps)) around)
       ∙ sym (at_drop_more (λ rest. done ++ pairs_reach domains boxes (pairs_seen rest) around) ps i d within) ∙ so_far
 
   pub pairs_end : (ps : List (TypedExpr × TypedExpr)) (i : ℕ) (done w : Reached) → length ps ≤ i → done ++ pairs_reach domains boxes (pairs_seen (drop i ps)) around ≡ w → done ≡ w
@@ -66,11 +66,11 @@ module _ (domains : List Box) (boxes : Boxes) (around : Box) where
       ∙ append_assoc done (reached_at (part_box_of own.items place.items around) (reach_of domains boxes (tree_of e))) others
       ∙ ap (λ reached. done ++ (reached ++ others)) (sym (part_within own.items place.items around (reach_of domains boxes (tree_of e))))
       ∙ ap (λ (x : Vec Interval Global). done ++ parts_reach domains boxes (trees (tree_of e) (trees_seen (drop (i + 1) es))) (x.items ∷ boxes_held (drop (i + 1) owns))
-          (place.items ∷ boxes_held (drop (i + 1) places)) around) own_is
+      (place.items ∷ boxes_held (drop (i + 1) places)) around) own_is
       ∙ ap (λ (x : Vec Interval Global). done ++ parts_reach domains boxes (trees (tree_of e) (trees_seen (drop (i + 1) es))) ((get_or owns i own).items ∷ boxes_held (drop (i + 1) owns))
-          (x.items ∷ boxes_held (drop (i + 1) places)) around) place_is
+      (x.items ∷ boxes_held (drop (i + 1) places)) around) place_is
       ∙ sym (at_drop_more (λ rest. done ++ parts_reach domains boxes (trees (tree_of e) (trees_seen (drop (i + 1) es))) ((get_or owns i own).items ∷ boxes_held (drop (i + 1) owns))
-          (boxes_held rest) around) places i place in_places)
+      (boxes_held rest) around) places i place in_places)
       ∙ sym (at_drop_more (λ rest. done ++ parts_reach domains boxes (trees (tree_of e) (trees_seen (drop (i + 1) es))) (boxes_held rest) (boxes_held (drop i places)) around) owns i own in_owns)
       ∙ sym (at_drop_more (λ rest. done ++ parts_reach domains boxes (trees_seen rest) (boxes_held (drop i owns)) (boxes_held (drop i places)) around) es i d in_es) ∙ so_far
 
@@ -109,4 +109,5 @@ module _ (domains : List Box) (boxes : Boxes) where
       sym (append-nil done) ∙ sym (at_drop_all (λ rest. done ++ positions_reach domains boxes (tree_of_axes rest)) index i over) ∙ so_far
 
 pub ruleset list_turns = (trees_turn, trees_end, pairs_turn, pairs_end, positions_turn, positions_end)
+
 pub ruleset part_turns = (parts_turn, parts_without_own, parts_without_place, parts_end)

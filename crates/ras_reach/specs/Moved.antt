@@ -14,8 +14,8 @@ abbrev pub interval_begun : ℤ → Interval → Interval
 interval_begun lo axis = record { lo = lo; hi = lo +ℤ (axis.hi -ℤ axis.lo) }
 
 -- the intervals of a box, each moved so that it begins with the other box' interval
-abbrev pub begun_with : Box → Box → Box
-begun_with first b = map (λ x. interval_from x.0 x.1) (zip first b)
+abbrev pub moved_to_begin : Box → Box → Box
+moved_to_begin first b = map (λ x. interval_from x.0 x.1) (zip first b)
 
 -- the boxes that vectors hold
 abbrev pub boxes_held : List (Vec Interval Global) → List Box

@@ -11,24 +11,24 @@ use Rattle.ras_reach.specs.declared.forms.PartForm.TheVariants.{Component, Lower
 
 -- ---- lists of which one item may be missing
 
-abbrev pub with_item : {A : Type 0} → Option A → Option (List A) → Option (List A)
-with_item None others = None
-with_item (Some x) None = None
-with_item (Some x) (Some xs) = Some (x ∷ xs)
+abbrev pub with_found : {A : Type 0} → Option A → Option (List A) → Option (List A)
+with_found None others = None
+with_found (Some x) None = None
+with_found (Some x) (Some xs) = Some (x ∷ xs)
 
 -- what is found of each item, where something is found of all
 abbrev pub all_found : {X A : Type 0} → (X → Option A) → List X → Option (List A)
 all_found find [] = Some []
-all_found find (x ∷ xs) = with_item (find x) (all_found find xs)
+all_found find (x ∷ xs) = with_found (find x) (all_found find xs)
 
 -- behind what was found before
-abbrev pub found_after : {A : Type 0} → List A → Option (List A) → Option (List A)
-found_after before None = None
-found_after before (Some others) = Some (before ++ others)
+abbrev pub all_found_after : {A : Type 0} → List A → Option (List A) → Option (List A)
+all_found_after before None = None
+all_found_after before (Some others) = Some (before ++ others)
 
-abbrev pub items_or_none : {A : Type 0} → Option (List A) → List A
-items_or_none None = []
-items_or_none (Some xs) = xs
+abbrev pub found_or_none : {A : Type 0} → Option (List A) → List A
+found_or_none None = []
+found_or_none (Some xs) = xs
 
 -- ---- values
 

@@ -5,7 +5,7 @@ use Rattle.spec_expressions.specs.Tree.{NameOf}
 use Rattle.ras_reach.specs.declared.variables.Variable.{Variable}
 
 abbrev pub variable_box : Variable → NameOf × Box
-variable_box variable = (variable.name.now, variable.axes.now)
+variable_box variable = (variable.name, variable.axes.items)
 
 -- innermost first
 abbrev pub variable_boxes : List Variable → List (NameOf × Box)

@@ -43,7 +43,7 @@ pub(crate) fn meet(
 }
 
 /// Whether some interval has no number in it.
-fn has_empty(axes: &[Interval]) -> bool
+pub(crate) fn has_empty(axes: &[Interval]) -> bool
     ensures { result ≡ list_any is_empty axes.now }
 {
     axes.iter().any(|axis| axis.hi < axis.lo)
@@ -76,7 +76,7 @@ fn push_index_box(
     axes: &[Interval],
     around: &[Interval],
     domains: &[Region],
-    variables: &[Variable<'_>],
+    variables: &[Variable],
     met: &mut Vec<Interval>,
 ) -> Result<bool, AllocError>
     ensures some { IfOk result (λ all. is_some (index_box domains.now (variable_boxes variables.now) (tree_of_axes index.now) axes.now around.now) ≡ all) }
@@ -116,7 +116,7 @@ fn cells_box(
     index: &[TypedAxis],
     around: &[Interval],
     domains: &[Region],
-    variables: &[Variable<'_>],
+    variables: &[Variable],
 ) -> Result<Option<Vec<Interval>>, AllocError>
     ensures { IfOk result (λ met. option_map (λ axes. axes.items) met
         ≡ operand_box_of domains.now (variable_boxes variables.now) (tree_of whole.now) (tree_of_axes index.now) around.now seen_cells) }
@@ -138,7 +138,7 @@ pub(crate) fn operand_box(
     index: &[TypedAxis],
     around: &[Interval],
     domains: &[Region],
-    variables: &[Variable<'_>],
+    variables: &[Variable],
 ) -> Result<Option<Vec<Interval>>, AllocError>
     ensures { IfOk result (λ met. option_map (λ axes. axes.items) met
         ≡ operand_box_of domains.now (variable_boxes variables.now) (tree_of whole.now) (tree_of_axes index.now) around.now (index_seen form.entry)) }

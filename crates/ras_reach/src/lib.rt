@@ -6,6 +6,10 @@ mod forms;
 mod intervals;
 mod moves;
 mod numbers;
+mod reached;
 mod shapes;
 mod statics;
 mod variables;
+mod walk;
+
+pub use reached::{ReachedBox, reach};

@@ -1,9 +1,9 @@
 //! Boxes that are moved, and the places of joined parts.
-ghost use Rattle.std.specs.Prelude.{◌≡◌, ◌++◌, map, neg_ℤ, IfOk, IfSome, OnOk, ◌-ℤ◌};
+ghost use Rattle.std.specs.Prelude.{◌≡◌, ◌++◌, map, neg_ℤ, unsigned_abs, IfOk, IfSome, OnOk, ◌-ℤ◌};
 ghost use Rattle.ras_domain.specs.Boxes.{shifted_axis as shifted_axis_of, shifted_by};
 ghost use Rattle.spec_expressions.specs.Reach.{moved_back as moved_back_of};
 ghost use Rattle.spec_expressions.specs.Shape.{interval_after, moved_after as moved_after_of, placed_after, placed_parts};
-ghost use Rattle.ras_reach.specs.Moved.{begun_with, boxes_held, differences_between, interval_begun};
+ghost use Rattle.ras_reach.specs.Moved.{moved_to_begin, boxes_held, differences_between, interval_begun};
 
 use ras_domain::Interval;
 use std::alloc::{AllocError, Global};
@@ -42,11 +42,7 @@ fn push_shifted(
 
 /// The box moved by an offset on each axis. The error is want of memory, or that a bound leaves 64
 /// bits.
-fn shifted(
-    alloc: Global,
-    offsets: &[i64],
-    axes: &[Interval],
-) -> Result<Vec<Interval>, AllocError>
+fn shifted(alloc: Global, offsets: &[i64], axes: &[Interval]) -> Result<Vec<Interval>, AllocError>
     ensures { IfOk result (λ moved. moved.items ≡ shifted_by offsets.now axes.now) }
 {
     let mut moved = Vec::new(alloc);
@@ -150,7 +146,7 @@ fn push_begun(
     b: &[Interval],
     moved: &mut Vec<Interval>,
 ) -> Result<(), AllocError>
-    ensures { OnOk result (moved.new.items ≡ moved.old.items ++ begun_with first.now b.now) }
+    ensures { OnOk result (moved.new.items ≡ moved.old.items ++ moved_to_begin first.now b.now) }
 {
     let [one, firsts @ ..] = first else {
         return Ok(());
@@ -254,4 +250,11 @@ pub(crate) fn placed(
     places.push(Vec::from_slice(alloc, first)?)?;
     push_placed(alloc, along, first, first, others, &mut places)?;
     Ok(places)
+}
+
+/// The number of an axis. A negative one, which no checked expression has, counts as its opposite.
+pub(crate) fn axis_number(along: &i64) -> u64
+    ensures { result ≡ unsigned_abs along.now }
+{
+    along.unsigned_abs()
 }

@@ -50,7 +50,7 @@ fn interval_at(axes: &[Interval], k: i64) -> Option<Interval>
 }
 
 /// Between which numbers the value of an index lies.
-fn index_bound(form: IndexForm<'_>, kind: &Kind, variables: &[Variable<'_>]) -> Option<Interval>
+fn index_bound(form: IndexForm<'_>, kind: &Kind, variables: &[Variable]) -> Option<Interval>
     ensures { result ≡ index_bound_of (variable_boxes variables.now) kind.now (index_seen form.entry) }
 {
     match form {
@@ -71,9 +71,7 @@ fn part_bound(
 {
     match form {
         PartForm::Component => Ok(Some(range_of(kind))),
-        PartForm::Lower | PartForm::Upper => {
-            Ok(alone(part_value(alloc, form, whole, domains)?))
-        }
+        PartForm::Lower | PartForm::Upper => { Ok(alone(part_value(alloc, form, whole, domains)?)) }
     }
 }
 
@@ -84,7 +82,7 @@ pub(crate) fn number_bound(
     alloc: Global,
     e: &TypedExpr,
     domains: &[Region],
-    variables: &[Variable<'_>],
+    variables: &[Variable],
 ) -> Result<Option<Interval>, AllocError>
     ensures { IfOk result (λ bound. bound ≡ number_bound_of domains.now (variable_boxes variables.now) (tree_of e.now)) }
 {
@@ -98,7 +96,10 @@ pub(crate) fn number_bound(
             let form = part_form(whole.get(), part);
             part_bound(alloc, form, whole.get(), &e.kind, domains)
         }
-        TypedForm::Unary { op: Op1::Neg, e: whole } => {
+        TypedForm::Unary {
+            op: Op1::Neg,
+            e: whole,
+        } => {
             let a = number_bound(alloc, whole.get(), domains, variables)?;
             Ok(negated(a))
         }

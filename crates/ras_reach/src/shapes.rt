@@ -10,11 +10,7 @@ use std::alloc::Global;
 
 /// The shape of an expression over the domains of its iterators' arrays.
 // until shape() lands
-pub(crate) fn shape(
-    _alloc: Global,
-    _e: &TypedExpr,
-    _domains: &[Region],
-) -> Result<Form, ShapeError>
+pub(crate) fn shape(_alloc: Global, _e: &TypedExpr, _domains: &[Region]) -> Result<Form, ShapeError>
     ensures { GivesShape (shape_of _domains.now (tree_of _e.now)) result }
 {
     Err(ShapeError::Memory)

@@ -6,7 +6,7 @@ ghost use Rattle.ras_shape.specs.Trees.{domain_looked_at, trees_seen};
 ghost use Rattle.spec_expressions.specs.Eval.{axes_in, box_in, offsets_in, written_in};
 ghost use Rattle.spec_expressions.specs.Shape.{offsets_of, shape_of, side_of, static_of, written_of};
 ghost use Rattle.spec_expressions.specs.Tree.{lower as lower_side, tree_of, upper as upper_side};
-ghost use Rattle.ras_reach.specs.Statics.{all_found, interval_between, interval_found, items_or_none, number_found, part_value_of};
+ghost use Rattle.ras_reach.specs.Statics.{all_found, interval_between, interval_found, found_or_none, number_found, part_value_of};
 
 use crate::forms::{PartForm, part_form};
 use crate::shapes::shape;
@@ -153,11 +153,7 @@ fn value_of(alloc: Global, e: &TypedExpr, domains: &[Region]) -> Result<Static, 
 
 /// The value of a static expression that has a shape, and None where it has no shape or no value. The
 /// error is want of memory.
-fn number_of(
-    alloc: Global,
-    e: &TypedExpr,
-    domains: &[Region],
-) -> Result<Option<i64>, AllocError>
+fn number_of(alloc: Global, e: &TypedExpr, domains: &[Region]) -> Result<Option<i64>, AllocError>
     ensures { IfOk result (λ number. number ≡ number_found domains.now e.now) }
 {
     if !has_shape(alloc, e, domains)? {
@@ -201,7 +197,7 @@ fn written_box(
     pairs: &[(TypedExpr, TypedExpr)],
     domains: &[Region],
 ) -> Result<Vec<Interval>, AllocError>
-    ensures { IfOk result (λ axes. axes.items ≡ items_or_none (all_found (interval_found domains.now) pairs.now)) }
+    ensures { IfOk result (λ axes. axes.items ≡ found_or_none (all_found (interval_found domains.now) pairs.now)) }
 {
     let mut axes = Vec::new(alloc);
     for pair in pairs {

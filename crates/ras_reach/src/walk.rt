@@ -1,16 +1,16 @@
 //! The walk over an expression that collects the boxes which it reads.
-ghost use Rattle.std.specs.Prelude.{◌≡◌, ◌++◌, [], option_map, OnOk};
-ghost use Rattle.ras_shape.specs.Trees.{pairs_seen, trees_seen};
+ghost use Rattle.std.specs.Prelude.{◌≡◌, ◌++◌, ◌∷◌, [], option_map, OnOk};
+ghost use Rattle.ras_shape.specs.Trees.{axis_seen, pairs_seen, trees_seen};
 ghost use Rattle.spec_expressions.specs.Check.{tree_of_axes};
 ghost use Rattle.spec_expressions.specs.Reach.{condition_reach, pairs_reach, parts_reach, positions_reach, reach_of, trees_reach};
-ghost use Rattle.spec_expressions.specs.Tree.{condition_of, tree_of};
+ghost use Rattle.spec_expressions.specs.Tree.{condition_of, no_axes, tree_of};
 ghost use Rattle.ras_reach.specs.Moved.{boxes_held};
 ghost use Rattle.ras_reach.specs.Reached.{boxes_reached};
 ghost use Rattle.ras_reach.specs.Variables.{variable_boxes};
 
 use crate::boxes::{extended_box, operand_box, own_boxes, part_box};
 use crate::forms::{PartForm, index_form, part_form};
-use crate::moves::{placed, shifted_back};
+use crate::moves::{axis_number, placed, shifted_back};
 use crate::reached::ReachedBox;
 use crate::statics::{box_of, domain_box, offset_values};
 use crate::variables::{Variable, with_variable};
@@ -22,12 +22,11 @@ use std::alloc::{AllocError, Global};
 /// Puts at the end the boxes that an expression reads for the result points in the box `around`. The
 /// error is want of memory, or that a bound leaves 64 bits.
 #[cycle(walk)]
-#[tactic(none)]
 pub(crate) fn reach_into(
     alloc: Global,
     e: &TypedExpr,
     domains: &[Region],
-    variables: &[Variable<'_>],
+    variables: &[Variable],
     around: &[Interval],
     out: &mut Vec<ReachedBox>,
 ) -> Result<(), AllocError>
@@ -62,7 +61,8 @@ pub(crate) fn reach_into(
             PartForm::Component => {
                 reach_into(alloc, whole.get(), domains, variables, around, out)
             }
-            PartForm::Lower | PartForm::Upper => Ok(()),
+            PartForm::Lower => Ok(()),
+            PartForm::Upper => Ok(()),
         },
         TypedForm::Case { arms, other } => {
             reach_pairs(alloc, arms.as_slice(), domains, variables, around, out)?;
@@ -104,7 +104,7 @@ pub(crate) fn reach_into(
         }
         TypedForm::Concat { parts, along } => {
             let owns = own_boxes(alloc, parts.as_slice(), domains)?;
-            let places = placed(alloc, along.unsigned_abs(), &owns)?;
+            let places = placed(alloc, axis_number(along), &owns)?;
             reach_parts(
                 alloc,
                 parts.as_slice(),
@@ -142,7 +142,7 @@ fn reach_each(
     alloc: Global,
     es: &[TypedExpr],
     domains: &[Region],
-    variables: &[Variable<'_>],
+    variables: &[Variable],
     around: &[Interval],
     out: &mut Vec<ReachedBox>,
 ) -> Result<(), AllocError>
@@ -162,7 +162,7 @@ fn reach_pairs(
     alloc: Global,
     pairs: &[(TypedExpr, TypedExpr)],
     domains: &[Region],
-    variables: &[Variable<'_>],
+    variables: &[Variable],
     around: &[Interval],
     out: &mut Vec<ReachedBox>,
 ) -> Result<(), AllocError>
@@ -178,12 +178,11 @@ fn reach_pairs(
 
 /// Puts at the end the boxes that a condition reads.
 #[cycle(walk)]
-#[tactic(none)]
 fn reach_condition(
     alloc: Global,
     condition: &Option<Boxed<TypedExpr>>,
     domains: &[Region],
-    variables: &[Variable<'_>],
+    variables: &[Variable],
     out: &mut Vec<ReachedBox>,
 ) -> Result<(), AllocError>
     ensures { OnOk result (boxes_reached out.new.items ≡ boxes_reached out.old.items
@@ -202,7 +201,7 @@ fn reach_positions(
     alloc: Global,
     index: &[TypedAxis],
     domains: &[Region],
-    variables: &[Variable<'_>],
+    variables: &[Variable],
     out: &mut Vec<ReachedBox>,
 ) -> Result<(), AllocError>
     ensures { OnOk result (boxes_reached out.new.items ≡ boxes_reached out.old.items
@@ -216,12 +215,11 @@ fn reach_positions(
 
 /// Puts at the end the boxes that a position reads.
 #[cycle(walk)]
-#[tactic(none)]
 fn reach_position(
     alloc: Global,
     cut: &TypedAxis,
     domains: &[Region],
-    variables: &[Variable<'_>],
+    variables: &[Variable],
     out: &mut Vec<ReachedBox>,
 ) -> Result<(), AllocError>
     ensures { OnOk result (boxes_reached out.new.items ≡ boxes_reached out.old.items
@@ -242,7 +240,7 @@ fn reach_parts(
     owns: &[Vec<Interval>],
     places: &[Vec<Interval>],
     domains: &[Region],
-    variables: &[Variable<'_>],
+    variables: &[Variable],
     around: &[Interval],
     out: &mut Vec<ReachedBox>,
 ) -> Result<(), AllocError>
