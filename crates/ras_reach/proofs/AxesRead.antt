@@ -1,44 +1,15 @@
--- What an axis of an index is, by how it is written.
-use Rattle.std.proofs.Common.{◌≡◌, List, [], ◌++◌, Option, Some, None, refl, sym, ap, ◌∙◌}
-use Rattle.std.specs.Prelude.{option_map}
+-- What the positions of an index read, axis by axis.
+use Rattle.std.proofs.Common.{◌≡◌, List, [], ◌++◌, refl, sym, ap, ◌∙◌}
 use Rattle.std.proofs.lemmas.List.{append-nil}
 use Rattle.ras_syntax.specs.declared.typed.TypedExpr.{TypedExpr}
 use Rattle.ras_syntax.specs.declared.typed.TypedForm.{TypedForm, fold-TypedForm}
 use Rattle.ras_syntax.specs.declared.typed.TypedDomain.{TypedDomain}
-use Rattle.ras_syntax.specs.declared.typed.TypedAxis.{TypedAxis, map-TypedAxis, out-TypedAxis, fold_out-TypedAxis, fold-roll-TypedAxis}
+use Rattle.ras_syntax.specs.declared.typed.TypedAxis.{TypedAxis, map-TypedAxis, out-TypedAxis, fold_out-TypedAxis}
 use Rattle.ras_syntax.specs.declared.typed.TypedAxis.TheOpen.{TypedAxis-F}
-use Rattle.ras_syntax.specs.declared.typed.TypedAxis.TheVariants as typed
 use Rattle.spec_expressions.specs.Reach.{Boxes, positions_reach, reach_of}
 use Rattle.spec_expressions.specs.Shape.{Box}
-use Rattle.spec_expressions.specs.Tree.{Tree, Form, Axes, Domain, edge_of, no_axes, position, trim, tree_of, axis_tree_step, domain_tree_step, form_tree_step, expr_tree_step}
+use Rattle.spec_expressions.specs.Tree.{Tree, Form, Axes, Domain, no_axes, tree_of, axis_tree_step, domain_tree_step, form_tree_step, expr_tree_step}
 use Rattle.ras_shape.specs.Trees.{axis_seen, domain_looked_at}
-
--- ---- one axis
-
-pub axis_at : (x : TypedAxis) (t : TypedExpr) (rest : Axes) → x ≡ typed.At t → axis_seen x rest ≡ position (tree_of t) rest
-axis_at x t rest is =
-    ap (λ y. axis_seen y rest) (is ∙ sym (typed.rolls-At t))
-    ∙ ap (λ before. before rest) (fold-roll-TypedAxis (Axes → Axes) Domain Form Tree axis_tree_step domain_tree_step form_tree_step expr_tree_step (TypedAxis-F.At t))
-
-trim_rolls : (a b : Option TypedExpr) (rest : Axes) → axis_seen (typed.Trim a b) rest ≡ trim (edge_of (option_map tree_of a)) (edge_of (option_map tree_of b)) rest
-trim_rolls None None rest =
-    ap (λ y. axis_seen y rest) (sym (typed.rolls-Trim None None))
-    ∙ ap (λ before. before rest) (fold-roll-TypedAxis (Axes → Axes) Domain Form Tree axis_tree_step domain_tree_step form_tree_step expr_tree_step (TypedAxis-F.Trim None None))
-trim_rolls None (Some b) rest =
-    ap (λ y. axis_seen y rest) (sym (typed.rolls-Trim None (Some b)))
-    ∙ ap (λ before. before rest) (fold-roll-TypedAxis (Axes → Axes) Domain Form Tree axis_tree_step domain_tree_step form_tree_step expr_tree_step (TypedAxis-F.Trim None (Some b)))
-trim_rolls (Some a) None rest =
-    ap (λ y. axis_seen y rest) (sym (typed.rolls-Trim (Some a) None))
-    ∙ ap (λ before. before rest) (fold-roll-TypedAxis (Axes → Axes) Domain Form Tree axis_tree_step domain_tree_step form_tree_step expr_tree_step (TypedAxis-F.Trim (Some a) None))
-trim_rolls (Some a) (Some b) rest =
-    ap (λ y. axis_seen y rest) (sym (typed.rolls-Trim (Some a) (Some b)))
-    ∙ ap (λ before. before rest) (fold-roll-TypedAxis (Axes → Axes) Domain Form Tree axis_tree_step domain_tree_step form_tree_step expr_tree_step (TypedAxis-F.Trim (Some a) (Some b)))
-
-pub axis_trim : (x : TypedAxis) (a b : Option TypedExpr) (rest : Axes) → x ≡ typed.Trim a b
-    → axis_seen x rest ≡ trim (edge_of (option_map tree_of a)) (edge_of (option_map tree_of b)) rest
-axis_trim x a b rest is = ap (λ y. axis_seen y rest) is ∙ trim_rolls a b rest
-
--- ---- what the positions of an axis and of those after it read
 
 abbrev form_within : TypedForm → Form
 form_within = fold-TypedForm (Axes → Axes) Domain Form Tree axis_tree_step domain_tree_step form_tree_step expr_tree_step

@@ -1,6 +1,8 @@
 pub mod AxesRead
 pub mod DomainsSeen
+pub mod FirstLocks
 pub mod FormsSeen
+pub mod KeyOrder
 pub mod LookedAtSeen
 pub mod NumbersSeen
 pub mod PartsRead

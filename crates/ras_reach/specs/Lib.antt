@@ -1,6 +1,9 @@
 pub mod Forms
+pub mod Kept
+pub mod Keys
 pub mod LookedAt
 pub mod Moved
+pub mod Needs
 pub mod Numbers
 pub mod Reached
 pub mod Statics

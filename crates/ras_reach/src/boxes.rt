@@ -17,11 +17,10 @@ ghost use Rattle.ras_reach.specs.Variables.{variable_boxes};
 use crate::forms::IndexForm;
 use crate::moves::moved_back;
 use crate::numbers::number_bound;
-use crate::shapes::shape;
 use crate::statics::box_of;
 use crate::variables::{Variable, box_named};
 use ras_domain::{Interval, Region};
-use ras_shape::ShapeError;
+use ras_shape::{ShapeError, shape};
 use ras_syntax::{TypedAxis, TypedExpr};
 use std::alloc::{AllocError, Global};
 

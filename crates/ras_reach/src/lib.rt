@@ -4,12 +4,15 @@
 mod boxes;
 mod forms;
 mod intervals;
+mod keys;
+mod locks;
 mod moves;
+mod needs;
 mod numbers;
 mod reached;
-mod shapes;
 mod statics;
 mod variables;
 mod walk;
 
+pub use needs::{NeedsFault, first_needs};
 pub use reached::{ReachedBox, reach};

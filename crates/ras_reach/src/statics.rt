@@ -9,10 +9,9 @@ ghost use Rattle.spec_expressions.specs.Tree.{lower as lower_side, tree_of, uppe
 ghost use Rattle.ras_reach.specs.Statics.{all_found, interval_between, interval_found, found_or_none, number_found, part_value_of};
 
 use crate::forms::{PartForm, part_form};
-use crate::shapes::shape;
 use ras_cells::{CellFault, Op1, Op2, apply1_to_number, apply2_to_numbers};
 use ras_domain::{Interval, Region};
-use ras_shape::ShapeError;
+use ras_shape::{ShapeError, shape};
 use ras_syntax::{TypedDomain, TypedExpr, TypedForm};
 use std::alloc::{AllocError, Global};
 

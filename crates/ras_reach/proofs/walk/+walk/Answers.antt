@@ -14,7 +14,7 @@ use Rattle.ras_reach.specs.declared.forms.PartForm.TheVariants.{Component, Lower
 use Rattle.ras_reach.specs.Moved.{boxes_held}
 use Rattle.ras_reach.specs.Reached.{boxes_reached}
 use Rattle.ras_reach.specs.Variables.{variable_boxes}
-use Rattle.ras_reach.proofs.AxesRead.{axis_at, axis_trim}
+use Rattle.ras_shape.proofs.AxesSeen.{axis_at, axis_trim}
 use Rattle.ras_reach.proofs.WalkForms.{adds_same, at_both, at_nothing, at_one, extend_in, index_in, index_nowhere, part_as}
 use Rattle.ras_reach.proofs.walk.+walk.Goals as goal
 
