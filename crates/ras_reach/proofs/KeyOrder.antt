@@ -1,6 +1,7 @@
 -- Locks by their keys: a key that is put among others stands where its lock does.
-use Rattle.std.proofs.Common.{arith, subst, ◌≡◌, ◌≤◌, List, [], ◌∷◌, ◌++◌, length, map, cond, Option, Some, None, refl, sym, ap, ◌∙◌, append_assoc}
+use Rattle.std.proofs.Common.{arith, suc, Result, Ok, Err, subst, ◌≡◌, ◌≤◌, List, [], ◌∷◌, ◌++◌, length, map, cond, Option, Some, None, refl, sym, ap, ◌∙◌, append_assoc}
 use Rattle.std.proofs.lemmas.List.{append-nil}
+use Rattle.std.specs.Prelude.{OnOk}
 use Rattle.std.specs.Map.{lookup}
 use Rattle.std.specs.Cmp.{IsTotalOrder, int_cmp_total, nat_cmp_total, on_total, then_total}
 use Rattle.std.specs.Cmp.Lexicographic.{lists_total, nat_list_cmp_total}
@@ -121,3 +122,19 @@ put_entry old new base name mode joint key found o k j f sorted is =
     ∙ ap (insert_entry key_cmp (keyed base) (lock_key name))
     (j ∙ ap (mode_with mode) (f ∙ ap (λ entries. lookup (is_at (key_cmp key)) entries) o ∙ ap (λ one. lookup (is_at (key_cmp one)) (keyed base)) k))
     ∙ put_is key_cmp key_total key_agrees name mode base (subst (λ entries. IsStrictlySortedBy key_cmp (map (λ e. e.0) entries)) o sorted)
+
+-- locks put before others that were put
+pub put_before_both : (first second base : List Lock) → put_before (first ++ second) base ≡ put_before first (put_before second base)
+put_before_both [] second base = refl
+put_before_both (lock ∷ first) second base = ap (with_lock lock) (put_before_both first second base)
+
+-- as many locks as keys
+pub as_many_names : (entries : List (LockKey × Mode)) → length (names_kept entries) ≡ length entries
+as_many_names [] = refl
+as_many_names (entry ∷ entries) = ap suc (as_many_names entries)
+
+-- a lock is put before those that are put
+pub put_pair : {E : Type 0} (first second old mid new : List Lock) (r : Result (Unit {0}) E) → mid ≡ put_before second old → OnOk r (new ≡ put_before first mid)
+    → OnOk r (new ≡ put_before (first ++ second) old)
+put_pair first second old mid new (Ok x) one two = two ∙ ap (put_before first) one ∙ sym (put_before_both first second old)
+put_pair first second old mid new (Err error) one two = tt

@@ -6,8 +6,12 @@ pub mod KeyOrder
 pub mod LookedAtSeen
 pub mod NumbersSeen
 pub mod PartsRead
+pub mod PhasesSeen
 pub mod Placing
+pub mod RowFirst
+pub mod RowLoops
 pub mod StaticsSeen
+pub mod TileLoops
 pub mod TreesRead
 pub mod VariablesSeen
 pub mod WalkForms

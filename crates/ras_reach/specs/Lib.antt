@@ -5,6 +5,8 @@ pub mod LookedAt
 pub mod Moved
 pub mod Needs
 pub mod Numbers
+pub mod PhaseLists
 pub mod Reached
 pub mod Statics
+pub mod TileLocks
 pub mod Variables

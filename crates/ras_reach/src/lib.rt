@@ -9,10 +9,15 @@ mod locks;
 mod moves;
 mod needs;
 mod numbers;
+mod phases;
 mod reached;
+mod reads;
 mod statics;
+mod tiles;
 mod variables;
 mod walk;
+mod writes;
 
 pub use needs::{NeedsFault, first_needs};
+pub use phases::{body_needs, condition_needs, domain_needs};
 pub use reached::{ReachedBox, reach};

@@ -1,11 +1,12 @@
 //! Lists of locks: each name once, in the order of names.
-ghost use Rattle.std.specs.Prelude.{◌≡◌, [], IfOk, OnErr, OnOk, List};
+ghost use Rattle.std.specs.Prelude.{◌≡◌, [], length, nat_lt, IfOk, OnErr, OnOk, List};
 ghost use Rattle.spec_statements.specs.Locks.{Lock, lock_list as lock_list_of, stronger, with_lock};
 ghost use Rattle.ras_reach.specs.Keys.{keyed, names_kept};
 ghost use Rattle.ras_reach.specs.Kept.{mode_with};
 
 use crate::keys::{LockKey, key_of, name_of};
 use ras_domain::{LockList, LockName, Mode};
+use ras_syntax::MAX_LOCKS;
 use std::alloc::{AllocError, Global};
 use std::collections::BTreeMap;
 use std::marker::Model;
@@ -108,6 +109,14 @@ impl LockSet {
             self.put(name, mode)?;
         }
         Ok(())
+    }
+
+    /// Whether there are more than [`MAX_LOCKS`].
+    #[tactic(auto, using(crate::proofs::KeyOrder::as_many_names))]
+    pub(crate) fn is_too_long(&self) -> bool
+        ensures { result ≡ nat_lt MAX_LOCKS (length self.now) }
+    {
+        self.kept.len() as u64 > MAX_LOCKS
     }
 
     /// The list of the locks. The error is want of memory.

@@ -2,12 +2,13 @@
 ghost use Rattle.std.specs.Prelude.{◌≡◌, ◌∷◌, [], map, IfOk};
 ghost use Rattle.ras_domain.specs.declared.lock.LockName.TheVariants.{Collection};
 ghost use Rattle.ras_domain.specs.declared.lock.Mode.TheVariants.{Shared};
-ghost use Rattle.ras_reach.specs.Needs.{GivesLocks, first_asked, limited_to};
+ghost use Rattle.ras_reach.specs.Needs.{GivesLocks, fault_of_stop, first_asked, limited_to};
 ghost use Rattle.ras_reach.specs.declared.needs.NeedsFault.TheVariants.{Memory};
 ghost use Rattle.spec_statements.specs.Machine.{read_lock, wanted_at_first};
 
 use crate::locks::lock_list;
 use ras_domain::{LockList, LockName, Mode, Name};
+use ras_rows::Stop;
 use ras_syntax::{Answer, MAX_LOCKS, ShapeFault, SourceName, Span, Statement, StatementForm};
 use std::alloc::{AllocError, AllocFailed, Global};
 
@@ -33,6 +34,17 @@ impl<T: Drop> From<AllocFailed<T>> for NeedsFault {
 
     fn from(_: AllocFailed<T>) -> NeedsFault {
         NeedsFault::Memory
+    }
+}
+
+impl From<Stop> for NeedsFault {
+    ghost from_gives = { λ stop fault. fault ≡ fault_of_stop stop };
+
+    fn from(stop: Stop) -> NeedsFault {
+        match stop {
+            Stop::Answer(answer) => NeedsFault::Answer(answer),
+            Stop::Memory => NeedsFault::Memory,
+        }
     }
 }
 
