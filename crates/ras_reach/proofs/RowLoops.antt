@@ -35,7 +35,7 @@ put_longer (lock ∷ locks) base = omega (arith, put_longer locks base, with_lon
 
 limited_by : (size : ℕ) (a b : Bool) (one other : List Lock) → a ≡ true → b ≡ true
     → (let p : Result (List Lock) Reply = if a then Err (misfit 0 (record { from = 0; to = size }) TooManyLocks) else Ok one in p)
-      ≡ (if b then Err (misfit 0 (record { from = 0; to = size }) TooManyLocks) else Ok other)
+    ≡ (if b then Err (misfit 0 (record { from = 0; to = size }) TooManyLocks) else Ok other)
 limited_by size true true one other p q = refl
 limited_by size true false one other p q = cc
 limited_by size false b one other p q = cc

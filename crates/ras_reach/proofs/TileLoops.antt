@@ -19,8 +19,8 @@ module _ (collection : List ℕ) (oid : ℕ) (mode : Mode) where
   tile_turn left rest place name before after w is named put so_far =
       put_turn (map (tile_lock collection oid mode) (points_held left)) (map (tile_lock collection oid mode) (points_held rest)) before after w (tile_lock collection oid mode place.items)
       (ap (λ points. map (tile_lock collection oid mode) (points_held points)) is
-       ∙ ap (map (tile_lock collection oid mode)) (map-append (λ (point : ArrayVec ℤ). point.items) rest (place ∷ []))
-       ∙ map-append (tile_lock collection oid mode) (points_held rest) (place.items ∷ []))
+      ∙ ap (map (tile_lock collection oid mode)) (map-append (λ (point : ArrayVec ℤ). point.items) rest (place ∷ []))
+      ∙ map-append (tile_lock collection oid mode) (points_held rest) (place.items ∷ []))
       (put ∙ ap (λ (lock : LockName). with_lock (lock, mode) before) named) so_far
 
   pub tile_end : (left : List (ArrayVec ℤ)) (locks w : List Lock) → length left ≤ 0 → put_before (map (tile_lock collection oid mode) (points_held left)) locks ≡ w → locks ≡ w
@@ -44,10 +44,10 @@ module _ (collection : List ℕ) (oid : ℕ) (mode : Mode) (keeps : List ℤ →
       ap (put_before (map (tile_lock collection oid mode) (filter keeps (points_held rest)))) put
       ∙ sym (put_before_both (map (tile_lock collection oid mode) (filter keeps (points_held rest))) (map (tile_lock collection oid mode) (filter keeps (place.items ∷ []))) before)
       ∙ ap (λ locks. put_before locks before)
-        (sym (ap (λ points. map (tile_lock collection oid mode) (filter keeps (points_held points))) is
-         ∙ ap (λ points. map (tile_lock collection oid mode) (filter keeps points)) (map-append (λ (point : ArrayVec ℤ). point.items) rest (place ∷ []))
-         ∙ ap (map (tile_lock collection oid mode)) (filter-both (points_held rest) (place.items ∷ []))
-         ∙ map-append (tile_lock collection oid mode) (filter keeps (points_held rest)) (filter keeps (place.items ∷ []))))
+      (sym (ap (λ points. map (tile_lock collection oid mode) (filter keeps (points_held points))) is
+      ∙ ap (λ points. map (tile_lock collection oid mode) (filter keeps points)) (map-append (λ (point : ArrayVec ℤ). point.items) rest (place ∷ []))
+      ∙ ap (map (tile_lock collection oid mode)) (filter-both (points_held rest) (place.items ∷ []))
+      ∙ map-append (tile_lock collection oid mode) (filter keeps (points_held rest)) (filter keeps (place.items ∷ []))))
       ∙ so_far
 
   pub changed_end : (left : List (ArrayVec ℤ)) (locks w : List Lock) → length left ≤ 0 → put_before (map (tile_lock collection oid mode) (filter keeps (points_held left))) locks ≡ w → locks ≡ w
@@ -55,4 +55,5 @@ module _ (collection : List ℕ) (oid : ℕ) (mode : Mode) (keeps : List ℤ →
   changed_end (place ∷ left) locks w none so_far = absurd (omega (arith, none))
 
 pub ruleset changed_turns = (changed_turn, changed_end)
+
 pub ruleset tile_turns = (tile_turn, tile_end)

@@ -174,11 +174,7 @@ fn condition_list(
 /// The answer is that of a statement with too many rows, or [`ShapeFault::TooManyLocks`] exactly where
 /// the list has more than [`MAX_LOCKS`] locks. Want of memory also stands for a set type or a domain
 /// that no checked statement has.
-pub fn domain_needs(
-    alloc: Global,
-    checked: &Checked,
-    view: &View,
-) -> Result<LockList, NeedsFault>
+pub fn domain_needs(alloc: Global, checked: &Checked, view: &View) -> Result<LockList, NeedsFault>
     ensures { (database : Database) → IsShownBy (holdings_in view.now) (request_of checked.now.form) database
         → GivesLocks (asked_in_2 (statement_tree_of checked.now) database) result }
 {
@@ -204,7 +200,13 @@ pub fn condition_needs(
     let sources = sources(&checked.form);
     let _domains = domain_list(alloc, checked.length, sources, &rows)?;
     shape_condition(alloc, checked, &rows)?;
-    condition_list(alloc, checked.length, sources, condition(&checked.form), &rows)
+    condition_list(
+        alloc,
+        checked.length,
+        sources,
+        condition(&checked.form),
+        &rows,
+    )
 }
 
 /// Puts the locks that the plan of a row asks for among the others. The error is want of memory.

@@ -122,7 +122,14 @@ fn put_box(
     };
     let extents = &array.set_type().extents;
     let places = tiles_met(alloc, extents, array.domain().axes(), &reached.axes)?;
-    put_tiles(alloc, &source.collection, array.oid(), Mode::Shared, places, set)
+    put_tiles(
+        alloc,
+        &source.collection,
+        array.oid(),
+        Mode::Shared,
+        places,
+        set,
+    )
 }
 
 /// The source at a place.

@@ -143,7 +143,16 @@ fn put_grown(
     }
     let extents = &array.set_type().extents;
     let places = tiles_of(alloc, extents, new)?;
-    put_changed(alloc, collection, array.oid(), extents, old, new, places, set)?;
+    put_changed(
+        alloc,
+        collection,
+        array.oid(),
+        extents,
+        old,
+        new,
+        places,
+        set,
+    )?;
     let name = LockName::Domain(collection.try_clone(alloc)?, array.oid());
     set.put(name, Mode::Exclusive)
 }

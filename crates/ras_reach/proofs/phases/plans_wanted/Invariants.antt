@@ -11,7 +11,7 @@ abbrev pub invariant-loop-left : goal.invariant-loop-left
 invariant-loop-left l = record {
   within : l.left ≤ length l.plans;
   so_far : put_before (flat_map (λ plan. plan_locks (request_of l.form) (plan_seen plan)) (take l.left l.plans)) l.set
-    ≡ lock_list (flat_map (plan_locks (request_of l.form)) (map plan_seen l.plans));
+      ≡ lock_list (flat_map (plan_locks (request_of l.form)) (map plan_seen l.plans));
 }
 
 abbrev pub decreases-loop-left : goal.decreases-loop-left

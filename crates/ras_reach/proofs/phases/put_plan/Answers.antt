@@ -12,7 +12,7 @@ pub returns-in_ok-put_write-in-Update : goal.returns-in_ok-put_write-in-Update
 returns-in_ok-put_write-in-Update c =
     rw c.in-Update.is
     (put_pair (read_tiles (c.in-Update.source ∷ []) (tree_of c.in-Update.body) (c.args.plan.now.number, c.args.plan.now.row.items))
-      (write_locks c.in-Update.source.collection c.args.plan.now.row.items (option_map writing_seen c.args.plan.now.writing))
-      c.args.set.now c.put_write.new.set c.put_read-in-Update.new.set c.put_read-in-Update.result
-      (rw c.as_slice-row.ensures.value at c.in_ok-put_write-in-Update.ensures)
-      (rw (c.from_ref.ensures.value, c.as_slice-row.ensures.value) at (c.put_read-in-Update.ensures c.args.plan.now.number)))
+    (write_locks c.in-Update.source.collection c.args.plan.now.row.items (option_map writing_seen c.args.plan.now.writing))
+    c.args.set.now c.put_write.new.set c.put_read-in-Update.new.set c.put_read-in-Update.result
+    (rw c.as_slice-row.ensures.value at c.in_ok-put_write-in-Update.ensures)
+    (rw (c.from_ref.ensures.value, c.as_slice-row.ensures.value) at (c.put_read-in-Update.ensures c.args.plan.now.number)))
