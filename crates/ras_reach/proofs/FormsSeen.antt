@@ -15,7 +15,9 @@ use Rattle.ras_syntax.specs.declared.typed.TypedDomain.{TypedDomain}
 use Rattle.ras_syntax.specs.declared.typed.TypedAxis.{TypedAxis, map-TypedAxis, out-TypedAxis, fold_out-TypedAxis}
 use Rattle.ras_syntax.specs.declared.typed.TypedAxis.TheOpen.{TypedAxis-F}
 use Rattle.spec_expressions.specs.Check.{tree_of_axes}
-use Rattle.spec_expressions.specs.Tree.{Domain, tree_of, axis_tree_step, domain_tree_step, form_tree_step, expr_tree_step, NameOf, Tree, Form, Axes, lower, upper, node, variable, number, domain_of, interval_of, bound_of, component, index, at_point, coordinate, no_axes, position, trim, index_form, part_form, is_same_name}
+use Rattle.spec_expressions.specs.Tree.{Domain, tree_of, axis_tree_step, domain_tree_step, form_tree_step, expr_tree_step, NameOf, Tree, Form, Axes, lower, upper, node, variable}
+use Rattle.spec_expressions.specs.Tree.{number, domain_of, interval_of, bound_of, component, index, at_point, coordinate, no_axes, position, trim, index_form, part_form}
+use Rattle.spec_expressions.specs.Tree.{is_same_name}
 use Rattle.ras_reach.specs.declared.forms.PartForm.TheVariants.{Component, Lower, Upper}
 use Rattle.ras_shape.specs.Ways.{has_one_position, is_axis_of_domain}
 use Rattle.ras_reach.specs.Forms.{head_of_node, other_head, head_between, seen_coordinate, seen_axis, seen_at_point, seen_cells, index_told, axis_in_index}

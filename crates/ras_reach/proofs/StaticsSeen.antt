@@ -16,7 +16,9 @@ use Rattle.ras_syntax.specs.declared.typed.Kind.{Kind}
 use Rattle.ras_syntax.specs.declared.typed.TypedExpr.{TypedExpr}
 use Rattle.spec_expressions.specs.Tree.{Side, Tree, Axes, index_form, lower, upper, node, tree_of, bounds, bound_of, interval_of, component, part_form, bound_named, is_same_name}
 use Rattle.spec_expressions.specs.Eval.{axes_in, box_in, numbers_or_none, offsets_in, written_in}
-use Rattle.spec_expressions.specs.Shape.{Box, Shape, ShapeMisfit, Bound, box, box_of, bounds_of, broken, between, cut_of, Cut, interval_at, interval_list, is_broken, is_empty_cut, is_small, kept_axes, literal, offsets_of, shape_of, side_of, side_of_shape, static_form, static_of, trim_cut, values_of, with_value, written_box, written_of}
+use Rattle.spec_expressions.specs.Shape.{Box, Shape, ShapeMisfit, Bound, box, box_of, bounds_of, broken, between, cut_of, Cut, interval_at, interval_list, is_broken, is_empty_cut}
+use Rattle.spec_expressions.specs.Shape.{is_small, kept_axes, literal, offsets_of, shape_of, side_of, side_of_shape, static_form, static_of, trim_cut, values_of, with_value}
+use Rattle.spec_expressions.specs.Shape.{written_box, written_of}
 use Rattle.ras_shape.specs.Trees.{pairs_seen, trees_seen}
 use Rattle.ras_shape.specs.Ways.{is_axis_of_domain}
 use Rattle.ras_shape.proofs.Indexing.{index-value}

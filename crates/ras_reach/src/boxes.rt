@@ -78,7 +78,8 @@ fn push_index_box(
     variables: &[Variable],
     met: &mut Vec<Interval>,
 ) -> Result<bool, AllocError>
-    ensures some { IfOk result (λ all. is_some (index_box domains.now (variable_boxes variables.now) (tree_of_axes index.now) axes.now around.now) ≡ all) }
+    ensures some { IfOk result (λ all.
+        is_some (index_box domains.now (variable_boxes variables.now) (tree_of_axes index.now) axes.now around.now) ≡ all) }
     ensures met { IfOk result (λ all. all ≡ true → met.new.items ≡ met.old.items
         ++ box_or_none (index_box domains.now (variable_boxes variables.now) (tree_of_axes index.now) axes.now around.now)) }
 {
@@ -140,7 +141,8 @@ pub(crate) fn operand_box(
     variables: &[Variable],
 ) -> Result<Option<Vec<Interval>>, AllocError>
     ensures { IfOk result (λ met. option_map (λ axes. axes.items) met
-        ≡ operand_box_of domains.now (variable_boxes variables.now) (tree_of whole.now) (tree_of_axes index.now) around.now (index_seen form.entry)) }
+        ≡ operand_box_of domains.now (variable_boxes variables.now) (tree_of whole.now)
+            (tree_of_axes index.now) around.now (index_seen form.entry)) }
 {
     match form {
         IndexForm::Coordinate(_, _) | IndexForm::AxisOfDomain => Ok(None),

@@ -96,7 +96,8 @@ fn only_axis(axes: &[TypedAxis]) -> Option<&TypedAxis>
 /// The position, where there is no other and no trim.
 #[tactic(auto, using(ras_shape::proofs::Indexing::one_axis))]
 fn only_position(axes: &[TypedAxis]) -> Option<&TypedExpr>
-    ensures { MatchOption result (has_one_position (tree_of_axes axes.now) ≡ false) (λ x. tree_of_axes axes.now ≡ position (tree_of x.now) no_axes) }
+    ensures { MatchOption result (has_one_position (tree_of_axes axes.now) ≡ false)
+        (λ x. tree_of_axes axes.now ≡ position (tree_of x.now) no_axes) }
 {
     let Some(axis) = only_axis(axes) else {
         return None;

@@ -33,7 +33,8 @@ fn joint_mode(mode: Mode, other: Option<Mode>) -> Mode
 
 /// Puts a lock among the others by its key. The error is want of memory.
 fn put_key(kept: &mut BTreeMap<LockKey, Mode>, name: LockName, mode: Mode) -> Result<(), AllocError>
-    ensures put { (base : List Lock) → kept.old.entries ≡ keyed base → OnOk result (kept.new.entries ≡ keyed (with_lock (name, mode) base)) }
+    ensures put { (base : List Lock) → kept.old.entries ≡ keyed base
+        → OnOk result (kept.new.entries ≡ keyed (with_lock (name, mode) base)) }
     ensures err { OnErr result (kept.new.entries ≡ kept.old.entries) }
 {
     let key = key_of(name);

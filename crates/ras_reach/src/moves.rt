@@ -223,7 +223,8 @@ fn push_placed(
     parts: &[Vec<Interval>],
     places: &mut Vec<Vec<Interval>>,
 ) -> Result<(), AllocError>
-    ensures { OnOk result (boxes_held places.new.items ≡ boxes_held places.old.items ++ placed_after along first.now before.now (boxes_held parts.now)) }
+    ensures { OnOk result (boxes_held places.new.items ≡ boxes_held places.old.items
+        ++ placed_after along first.now before.now (boxes_held parts.now)) }
 {
     let [part, parts @ ..] = parts else {
         return Ok(());

@@ -88,7 +88,8 @@ fn domains_wanted(
     sources: &[CheckedSource],
     rows: &Rows<'_>,
 ) -> Result<LockSet, AllocError>
-    ensures { IfOk result (λ set. (size : ℕ) → limited_to size set ≡ limited_to size (lock_list_of (flat_map (domain_locks sources.now) rows.now))) }
+    ensures { IfOk result (λ set. (size : ℕ)
+        → limited_to size set ≡ limited_to size (lock_list_of (flat_map (domain_locks sources.now) rows.now))) }
 {
     let mut set = LockSet::new(alloc);
     let mut left = rows.len();
@@ -112,7 +113,8 @@ fn reads_wanted(
     e: &TypedExpr,
     rows: &Rows<'_>,
 ) -> Result<LockSet, AllocError>
-    ensures { IfOk result (λ set. (size : ℕ) → limited_to size set ≡ limited_to size (lock_list_of (flat_map (read_tiles sources.now (tree_of e.now)) rows.now))) }
+    ensures { IfOk result (λ set. (size : ℕ)
+        → limited_to size set ≡ limited_to size (lock_list_of (flat_map (read_tiles sources.now (tree_of e.now)) rows.now))) }
 {
     let mut set = LockSet::new(alloc);
     let mut left = rows.len();
@@ -157,7 +159,8 @@ fn condition_list(
     condition: Option<&TypedExpr>,
     rows: &Rows<'_>,
 ) -> Result<LockList, NeedsFault>
-    ensures { GivesLocks (limited_to length (lock_list_of (flat_map (condition_tiles sources.now (condition_of (option_map tree_of (option_copied condition.entry)))) rows.now))) result }
+    ensures { GivesLocks (limited_to length (lock_list_of (flat_map
+        (condition_tiles sources.now (condition_of (option_map tree_of (option_copied condition.entry)))) rows.now))) result }
 {
     match condition {
         Some(e) => {
@@ -261,7 +264,8 @@ fn plans_wanted(
     form: &CheckedForm,
     plans: &[Plan<'_>],
 ) -> Result<LockSet, AllocError>
-    ensures { IfOk result (λ set. (size : ℕ) → limited_to size set ≡ limited_to size (lock_list_of (flat_map (plan_locks (request_of form.now)) (map plan_seen plans.now)))) }
+    ensures { IfOk result (λ set. (size : ℕ)
+        → limited_to size set ≡ limited_to size (lock_list_of (flat_map (plan_locks (request_of form.now)) (map plan_seen plans.now)))) }
 {
     let mut set = LockSet::new(alloc);
     let mut left = plans.len();

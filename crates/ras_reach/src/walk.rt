@@ -245,7 +245,8 @@ fn reach_parts(
     out: &mut Vec<ReachedBox>,
 ) -> Result<(), AllocError>
     ensures { OnOk result (boxes_reached out.new.items ≡ boxes_reached out.old.items
-        ++ parts_reach domains.now (variable_boxes variables.now) (trees_seen parts.now) (boxes_held owns.now) (boxes_held places.now) around.now) }
+        ++ parts_reach domains.now (variable_boxes variables.now) (trees_seen parts.now)
+            (boxes_held owns.now) (boxes_held places.now) around.now) }
 {
     for (at, e) in parts.iter().enumerate() {
         if at >= owns.len() || at >= places.len() {

@@ -86,7 +86,9 @@ fn put_if_changed(
     place: Point,
     set: &mut LockSet,
 ) -> Result<(), AllocError>
-    ensures { OnOk result (set.new ≡ put_before (map (tile_lock collection.now oid Alone) (filter (box_changes extents.now.items old.now new.now) (place.items ∷ []))) set.old) }
+    ensures { OnOk result (set.new
+        ≡ put_before (map (tile_lock collection.now oid Alone)
+            (filter (box_changes extents.now.items old.now new.now) (place.items ∷ []))) set.old) }
 {
     if !changes(alloc, extents, &place, old, new)? {
         return Ok(());
@@ -109,7 +111,8 @@ fn put_changed(
     set: &mut LockSet,
 ) -> Result<(), AllocError>
     ensures { OnOk result (set.new
-        ≡ put_before (map (tile_lock collection.now oid Alone) (filter (box_changes extents.now.items old.now new.now) (points_held places.items))) set.old) }
+        ≡ put_before (map (tile_lock collection.now oid Alone)
+            (filter (box_changes extents.now.items old.now new.now) (points_held places.items))) set.old) }
 {
     let mut left = places;
     while let Some(place) = left.pop() {

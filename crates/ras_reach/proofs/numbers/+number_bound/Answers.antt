@@ -10,5 +10,6 @@ returns-in-Index t c =
 
 pub returns-in-Part : goal.returns-in-Part
 returns-in-Part t c =
-    bound_of_part c.args.domains.now (variable_boxes c.args.variables.now) c.args.e.now c.in-Part.whole c.in-Part.part c.get-in-Part.result.now c.get-in-Part-2.result.now c.part_form-form.result c.part_bound.result
+    bound_of_part c.args.domains.now (variable_boxes c.args.variables.now) c.args.e.now c.in-Part.whole c.in-Part.part
+    c.get-in-Part.result.now c.get-in-Part-2.result.now c.part_form-form.result c.part_bound.result
     c.in-Part.is c.get-in-Part.ensures c.get-in-Part-2.ensures c.part_form-form.ensures c.part_bound.ensures

@@ -7,9 +7,11 @@ use Rattle.spec_expressions.specs.Check.{tree_of_axes}
 use Rattle.spec_expressions.specs.Eval.{axes_in, box_in, boxes_in, offsets_in, written_in}
 use Rattle.spec_expressions.specs.Reach.{condition_reach, pairs_reach, parts_reach, positions_reach, reach_of, trees_reach}
 use Rattle.spec_expressions.specs.Shape.{offsets_of, placed_parts, shape_of, shapes_of, written_of}
-use Rattle.spec_expressions.specs.Tree.{truth, number, iterator, variable, unary, cast, binary, index_form, part_form, choice, composite, marray, condense, folded, shift, extend, concat, domain_of, oid, condition_of, no_axes, tree_of}
+use Rattle.spec_expressions.specs.Tree.{truth, number, iterator, variable, unary, cast, binary, index_form, part_form, choice, composite, marray, condense, folded, shift, extend}
+use Rattle.spec_expressions.specs.Tree.{concat, domain_of, oid, condition_of, no_axes, tree_of}
 use Rattle.ras_shape.specs.Trees.{axis_seen, domain_looked_at, pairs_seen, trees_seen}
-use Rattle.ras_shape.proofs.TreesSeen.{node_Bool, node_Number, node_Iterator, node_Variable, node_Unary, node_Cast, node_Binary, node_Index, node_Part, node_Case, node_Build, node_Marray, node_Condense, node_Cells, node_Shift, node_Extend, node_Concat, node_Sdom, node_Oid}
+use Rattle.ras_shape.proofs.TreesSeen.{node_Bool, node_Number, node_Iterator, node_Variable, node_Unary, node_Cast, node_Binary, node_Index, node_Part, node_Case, node_Build}
+use Rattle.ras_shape.proofs.TreesSeen.{node_Marray, node_Condense, node_Cells, node_Shift, node_Extend, node_Concat, node_Sdom, node_Oid}
 use Rattle.ras_reach.specs.declared.forms.PartForm.TheVariants.{Component, Lower, Upper}
 use Rattle.ras_reach.specs.Moved.{boxes_held}
 use Rattle.ras_reach.specs.Reached.{boxes_reached}

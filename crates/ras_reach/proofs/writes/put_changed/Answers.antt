@@ -12,5 +12,6 @@ loop-place-preserved c =
     let is : c.loop-place.left.items ≡ c.pop.new.self.items ++ c.in-Some.place ∷ [] = c.in-Some.ensures.items in
     changed_turn c.args.collection.now c.args.oid Exclusive (box_changes c.args.extents.now.items c.args.old.now c.args.new.now) c.loop-place.left.items c.pop.new.self.items c.in-Some.place
     c.loop-place.set c.put_if_changed.new.set
-    (put_before (map (tile_lock c.args.collection.now c.args.oid Exclusive) (filter (box_changes c.args.extents.now.items c.args.old.now c.args.new.now) (points_held c.args.places.items))) c.args.set.now)
+    (put_before (map (tile_lock c.args.collection.now c.args.oid Exclusive) (filter (box_changes c.args.extents.now.items c.args.old.now c.args.new.now)
+      (points_held c.args.places.items))) c.args.set.now)
     is c.in_ok-put_if_changed.ensures c.loop-place.invariant
