@@ -1,0 +1,12 @@
+pub mod Forms
+pub mod Kept
+pub mod Keys
+pub mod LookedAt
+pub mod Moved
+pub mod Needs
+pub mod Numbers
+pub mod PhaseLists
+pub mod Reached
+pub mod Statics
+pub mod TileLocks
+pub mod Variables
