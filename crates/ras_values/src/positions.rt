@@ -1,9 +1,8 @@
 //! The coordinates of the point at which an index looks.
-ghost use Rattle.std.specs.Prelude.{◌≡◌, Some, IfOk, IfErr};
+ghost use Rattle.std.specs.Prelude.{◌≡◌, Some, IfOk};
 ghost use Rattle.spec_expressions.specs.Eval.{position_in};
 ghost use Rattle.ras_values.specs.Given.{point_seen};
 ghost use Rattle.ras_values.specs.Folding.{added_to};
-ghost use Rattle.ras_values.specs.declared.error.CellError.TheVariants.{Memory};
 
 use crate::error::CellError;
 use crate::operations::number_of;
@@ -13,8 +12,7 @@ use ras_domain::Point;
 /// The point with the number of a cell at its end, and None where the cell is null. The error is
 /// [`CellError::Memory`], where there are too many coordinates.
 pub(crate) fn with_number(q: Option<Point>, x: &Cell) -> Result<Option<Point>, CellError>
-    ensures point { IfOk result (λ more. point_seen more ≡ added_to (point_seen q) (position_in x.now)) }
-    ensures memory { IfErr result (λ error. error ≡ Memory) }
+    ensures { IfOk result (λ more. point_seen more ≡ added_to (point_seen q) (position_in x.now)) }
 {
     match number_of(x) {
         Some(number) => with_coordinate(q, &number),
@@ -24,8 +22,7 @@ pub(crate) fn with_number(q: Option<Point>, x: &Cell) -> Result<Option<Point>, C
 
 /// The point with a coordinate at its end. The error is [`CellError::Memory`], where there are too many.
 pub(crate) fn with_coordinate(q: Option<Point>, c: &i64) -> Result<Option<Point>, CellError>
-    ensures point { IfOk result (λ more. point_seen more ≡ added_to (point_seen q) (Some c.now)) }
-    ensures memory { IfErr result (λ error. error ≡ Memory) }
+    ensures { IfOk result (λ more. point_seen more ≡ added_to (point_seen q) (Some c.now)) }
 {
     let Some(mut q) = q else {
         return Ok(None);

@@ -86,7 +86,6 @@ pub fn cell<A: Arrays>(node: &Node, row: &A, scope: &mut Points, p: &Point) -> O
 
 /// The cell at a point, null where there is no point.
 #[cycle(cells)]
-#[tactic(none)]
 fn looked_at<A: Arrays>(
     e: &Node,
     row: &A,
@@ -106,7 +105,6 @@ fn looked_at<A: Arrays>(
 
 /// The cell at a point that was moved, where it could be.
 #[cycle(cells)]
-#[tactic(none)]
 fn moved<A: Arrays>(e: &Node, row: &A, scope: &mut Points, q: Option<Point>) -> Outcome
     ensures cell { IfSome q (λ q. GivesCell (cells_of_node e.now (A.members row.now) scope.old q.items) result) }
     ensures memory { IfNone q (result ≡ Err Memory) }
@@ -120,7 +118,6 @@ fn moved<A: Arrays>(e: &Node, row: &A, scope: &mut Points, q: Option<Point>) -> 
 
 /// The cell where one more variable stands for the point.
 #[cycle(cells)]
-#[tactic(none)]
 fn entered<A: Arrays>(e: &Node, row: &A, scope: &mut Points, q: &Point) -> Outcome
     ensures cell { GivesCell (condensed_at (cells_of_node e.now) (A.members row.now) scope.old q.now.items) result }
     ensures same { scope.new ≡ scope.old }
@@ -137,7 +134,6 @@ fn entered<A: Arrays>(e: &Node, row: &A, scope: &mut Points, q: &Point) -> Outco
 
 /// The fold of the cells where one more variable stands for each point of a box, up to the first fault.
 #[cycle(cells)]
-#[tactic(none)]
 fn condense<A: Arrays>(
     e: &Node,
     op: FoldOp,
@@ -160,7 +156,6 @@ fn condense<A: Arrays>(
 
 /// The fold of the cells at each point of a box, up to the first fault.
 #[cycle(cells)]
-#[tactic(none)]
 fn folded<A: Arrays>(
     e: &Node,
     f: CellsFold,
@@ -183,7 +178,6 @@ fn folded<A: Arrays>(
 
 /// The components side by side.
 #[cycle(cells)]
-#[tactic(none)]
 fn composite<A: Arrays>(parts: &[Node], row: &A, scope: &mut Points, p: &Point) -> Outcome
     ensures cell { GivesCell (composed_of (each_cell (map cells_of_node parts.now) (A.members row.now) scope.old p.now.items)) result }
     ensures same { scope.new ≡ scope.old }
@@ -191,14 +185,16 @@ fn composite<A: Arrays>(parts: &[Node], row: &A, scope: &mut Points, p: &Point) 
     let mut whole = Cell::Value(Numbers::new());
     for part in parts {
         let x = cell(part, row, scope, p)?;
-        whole = side_by_side(&whole, &x).ok_or(CellError::Memory)?;
+        let Some(both) = side_by_side(&whole, &x) else {
+            return Err(CellError::Memory);
+        };
+        whole = both;
     }
     Ok(whole)
 }
 
 /// The point at which an index looks.
 #[cycle(cells)]
-#[tactic(none)]
 fn point_of<A: Arrays>(
     positions: &[Position],
     row: &A,
@@ -214,13 +210,19 @@ fn point_of<A: Arrays>(
         match position {
             Position::At(e) => {
                 let x = cell(e, row, scope, &Point::new())?;
-                q = with_number(q, &x)?;
+                let Ok(more) = with_number(q, &x) else {
+                    return Err(CellError::Memory);
+                };
+                q = more;
             }
             Position::Kept => {
-                let [c, others @ ..] = left else {
+                let [coordinate, others @ ..] = left else {
                     return Ok(q);
                 };
-                q = with_coordinate(q, c)?;
+                let Ok(more) = with_coordinate(q, coordinate) else {
+                    return Err(CellError::Memory);
+                };
+                q = more;
                 left = others;
             }
         }
@@ -230,7 +232,6 @@ fn point_of<A: Arrays>(
 
 /// The cell of the part whose place has the point.
 #[cycle(cells)]
-#[tactic(none)]
 fn joined<A: Arrays>(parts: &[Part], row: &A, scope: &mut Points, p: &Point) -> Outcome
     ensures cell { GivesCell (joined_at (map part_cells parts.now) (A.members row.now) scope.old p.now.items) result }
     ensures same { scope.new ≡ scope.old }

@@ -1,4 +1,13 @@
-use Rattle.std.proofs.Common.{◌≡◌, Ok, true, false, refl, sym, ap, ◌∙◌}
+use Rattle.std.proofs.Common.{◌≡◌, ◌+◌, ◌<◌, ◌≤◌, ℕ, Ok, true, false, map, refl, sym, ap, subst, ◌∙◌, arith}
+use Rattle.std.proofs.lemmas.Result.{err_from_is_err_and}
+use Rattle.ras_domain.specs.Region.{points_of}
+use Rattle.ras_domain.proofs.Walks.{IsIn-at_place}
+use Rattle.spec_expressions.specs.Fold.{folded_of, cells_folded_of}
+use Rattle.ras_values.specs.Nodes.{axes_kept, cells_of_node, condensed_at, each_cell, position_cells, positions_by}
+use Rattle.ras_values.proofs.Folds.{at_next, cells_fold_ends, fold_ends, folding_first, folding_more, folding_stop}
+use Rattle.ras_values.proofs.WalkArms.{gives_at, moved_gives}
+use Rattle.ras_values.proofs.WalkLoops.{joined_here, joined_later, joined_over, kept_next, kept_out, number_error, number_next, point_first, positions_over}
+use Rattle.ras_values.proofs.WalkLoops.{look_error, look_none, look_some, take_back, whole_error, whole_next, whole_over, whole_start}
 use Rattle.ras_values.proofs.WalkArms.{arm_Constant, arm_Faulty, arm_Member, arm_Coordinate, arm_Unary, arm_Cast, arm_Binary, arm_Index, arm_AtPoint, arm_Component, arm_If, arm_If_stops}
 use Rattle.ras_values.proofs.WalkArms.{arm_Composite, arm_Marray, arm_Condense, arm_Folded, arm_Shift, arm_Extend, arm_outside, arm_Concat}
 use Rattle.ras_values.proofs.walk.+cells.Goals as goal
@@ -96,58 +105,147 @@ cell-returns-in-Concat-clause-cell g t c =
     arm_Concat (g.A.Arrays.members c.args.row.now) c.args.scope.now c.args.p.now.items c.args.node.now _ _ c.in-Concat.is (rw c.as_slice-in-Concat.ensures at c.joined.ensures.cell)
 
 pub entered-returns-in-Ok-clause-cell : goal.entered-returns-in-Ok-clause-cell
-entered-returns-in-Ok-clause-cell g t c = ?
+entered-returns-in-Ok-clause-cell g t c = rw (c.in-Ok.ensures.ok, c.new.ensures) at c.cell-x.ensures.cell
 
 pub entered-returns-in-Ok-clause-same : goal.entered-returns-in-Ok-clause-same
-entered-returns-in-Ok-clause-same g t c = ?
+entered-returns-in-Ok-clause-same g t c = c.leave.ensures ∙ take_back _ _ _ (c.cell-x.ensures.same ∙ c.in-Ok.ensures.ok)
 
 pub entered-returns-in-Err-clause-same : goal.entered-returns-in-Err-clause-same
-entered-returns-in-Err-clause-same g t c = ?
+entered-returns-in-Err-clause-same g t c = c.in-Err.ensures.err
 
 pub looked_at-returns-in-Ok-Some-clause-cell : goal.looked_at-returns-in-Ok-Some-clause-cell
-looked_at-returns-in-Ok-Some-clause-cell g t c = ?
+looked_at-returns-in-Ok-Some-clause-cell g t c =
+    look_some (cells_of_node c.args.e.now (g.A.Arrays.members c.args.row.now) c.args.scope.now) c.args.q _ c.cell.result (c.in-Ok-Some.is ∙ ap (λ o. Ok o) c.in-Ok-Some.field-0-is) c.cell.ensures.cell
 
 pub looked_at-returns-in-Ok-None-clause-cell : goal.looked_at-returns-in-Ok-None-clause-cell
-looked_at-returns-in-Ok-None-clause-cell g t c = ?
+looked_at-returns-in-Ok-None-clause-cell g t c =
+    look_none (cells_of_node c.args.e.now (g.A.Arrays.members c.args.row.now) c.args.scope.now) c.args.q (c.in-Ok-None.is ∙ ap (λ o. Ok o) c.in-Ok-None.field-0-is)
 
 pub looked_at-returns-in-Err-clause-cell : goal.looked_at-returns-in-Err-clause-cell
-looked_at-returns-in-Err-clause-cell g t c = ?
+looked_at-returns-in-Err-clause-cell g t c = look_error (cells_of_node c.args.e.now (g.A.Arrays.members c.args.row.now) c.args.scope.now) c.args.q _ c.in-Err.is
 
 pub moved-returns-in-Some-clause-cell : goal.moved-returns-in-Some-clause-cell
-moved-returns-in-Some-clause-cell g t c = ?
+moved-returns-in-Some-clause-cell g t c = rw c.in-Some.is c.cell.ensures.cell
 
 pub moved-returns-in-Some-clause-memory : goal.moved-returns-in-Some-clause-memory
-moved-returns-in-Some-clause-memory g t c = ?
+moved-returns-in-Some-clause-memory g t c = rw c.in-Some.is tt
 
 pub moved-returns-in-None-clause-cell : goal.moved-returns-in-None-clause-cell
-moved-returns-in-None-clause-cell g t c = ?
+moved-returns-in-None-clause-cell g t c = rw c.in-None.is tt
 
 pub moved-returns-in-None-clause-memory : goal.moved-returns-in-None-clause-memory
-moved-returns-in-None-clause-memory g t c = ?
+moved-returns-in-None-clause-memory g t c = rw c.in-None.is refl
 
 pub composite-loop-part-init : goal.composite-loop-part-init
-composite-loop-part-init g t c = ?
+composite-loop-part-init g t c = record { rest = whole_start c.new.result c.new.ensures (each_cell (map cells_of_node c.args.parts.now) (g.A.Arrays.members c.args.row.now) c.args.scope.now c.args.p.now.items); scope = refl }
 
 pub composite-returns-in_err-x-clause-cell : goal.composite-returns-in_err-x-clause-cell
-composite-returns-in_err-x-clause-cell g t c = ?
-
-pub composite-returns-in_err-whole-clause-cell : goal.composite-returns-in_err-whole-clause-cell
-composite-returns-in_err-whole-clause-cell g t c = ?
+composite-returns-in_err-x-clause-cell g t c =
+    let p = err_from_is_err_and c.from_residual.result c.from_residual.ensures.1 in
+    rw (p.1, p.2) (whole_error (g.A.Arrays.members c.args.row.now) c.args.scope.now c.args.p.now.items c.args.parts.now c.loop-part.part-index c.part-item.result c.loop-part.whole c.in_err-x.field-0.0 _
+    (omega arith) c.part-item.is (rw c.loop-part.invariant.scope at c.in_err-x.ensures.cell) c.loop-part.invariant.rest)
 
 pub composite-loop-part-preserved : goal.composite-loop-part-preserved
-composite-loop-part-preserved g t c = ?
+composite-loop-part-preserved g t c =
+    record {
+      rest = whole_next (g.A.Arrays.members c.args.row.now) c.args.scope.now c.args.p.now.items c.args.parts.now c.loop-part.part-index c.part-item.result c.loop-part.whole c.in-Some.both c.in_ok-x.x _
+        (omega arith) c.part-item.is (rw c.loop-part.invariant.scope at c.in_ok-x.ensures.cell) (rw c.in-Some.is at c.side_by_side.ensures) c.loop-part.invariant.rest;
+      scope = c.cell.ensures.same ∙ c.loop-part.invariant.scope;
+    }
 
 pub composite-returns-clause-cell : goal.composite-returns-clause-cell
-composite-returns-clause-cell g t c = ?
+composite-returns-clause-cell g t c =
+    whole_over (g.A.Arrays.members c.args.row.now) c.args.scope.now c.args.p.now.items c.args.parts.now c.loop-part.part-index c.loop-part.whole _ (omega arith) c.loop-part.invariant.rest
 
 pub condense-loop-init : goal.condense-loop-init
-condense-loop-init g t c = ?
+condense-loop-init g t c =
+    record {
+      folding = folding_first (condensed_at (cells_of_node c.args.e.now) (g.A.Arrays.members c.args.row.now) c.args.scope.now) (axes_kept c.args.axes.now) c.new-tally.result c.new-tally.ensures.nothing c.new-tally.ensures.count;
+      rule = c.new-tally.ensures.rule;
+      here = λ _. c.first_point-q.ensures;
+      ends = c.volume_of-end.ensures.volume;
+      scope = refl;
+    }
+
+pub condense-returns-in_err-x-clause-cell : goal.condense-returns-in_err-x-clause-cell
+condense-returns-in_err-x-clause-cell g t c =
+    let p = err_from_is_err_and c.from_residual.result c.from_residual.ensures.1 in
+    let within : c.loop.counter < c.volume_of-end.result = omega arith in
+    let at = c.loop.invariant.here (subst (λ n. c.loop.counter < n) c.loop.invariant.ends within) in
+    rw (p.1, p.2) (folding_stop (condensed_at (cells_of_node c.args.e.now) (g.A.Arrays.members c.args.row.now) c.args.scope.now) (axes_kept c.args.axes.now) (λ zs. folded_of c.args.op zs) c.loop.counter c.loop.q.items c.loop.tally c.in_err-x.field-0.0 c.loop.invariant.folding at
+    (rw c.loop.invariant.scope at c.in_err-x.ensures.cell))
+
+pub condense-add-requires : goal.condense-add-requires
+condense-add-requires g t c = omega (arith, c.loop.invariant.folding.few, c.volume_of-end.ensures.small)
+
+pub condense-after-q-requires : goal.condense-after-q-requires
+condense-after-q-requires g t c =
+    let within : c.loop.counter < c.volume_of-end.result = omega arith in
+    IsIn-at_place (axes_kept c.args.axes.now) c.loop.counter c.loop.q.items (c.loop.invariant.here (subst (λ n. c.loop.counter < n) c.loop.invariant.ends within))
 
 pub condense-loop-preserved : goal.condense-loop-preserved
-condense-loop-preserved g t c = ?
+condense-loop-preserved g t c =
+    let within : c.loop.counter < c.volume_of-end.result = omega arith in
+    let at = c.loop.invariant.here (subst (λ n. c.loop.counter < n) c.loop.invariant.ends within) in
+    record {
+      folding = folding_more (condensed_at (cells_of_node c.args.e.now) (g.A.Arrays.members c.args.row.now) c.args.scope.now) (axes_kept c.args.axes.now) c.loop.counter c.loop.q.items c.loop.tally c.add.new.self c.in_ok-x.x c.loop.invariant.folding at
+        (rw c.loop.invariant.scope at c.in_ok-x.ensures.cell) c.add.ensures.added c.add.ensures.count;
+      rule = c.add.ensures.rule ∙ c.loop.invariant.rule;
+      here = λ more. at_next (points_of (axes_kept c.args.axes.now)) (c.loop.counter + 1) c.after-q.result.items more (c.after-q.ensures c.loop.counter at);
+      ends = c.loop.invariant.ends;
+      scope = c.entered.ensures.same ∙ c.loop.invariant.scope;
+    }
 
 pub condense-returns-clause-cell : goal.condense-returns-clause-cell
-condense-returns-clause-cell g t c = ?
+condense-returns-clause-cell g t c =
+    let past : c.volume_of-end.result ≤ c.loop.counter = omega arith in
+    fold_ends (condensed_at (cells_of_node c.args.e.now) (g.A.Arrays.members c.args.row.now) c.args.scope.now) (axes_kept c.args.axes.now) c.args.op c.loop.counter c.loop.tally c.close.result c.told.result c.loop.invariant.folding
+    (subst (λ n. n ≤ c.loop.counter) c.loop.invariant.ends past) c.loop.invariant.rule c.close.ensures c.told.ensures
+
+pub folded-loop-init : goal.folded-loop-init
+folded-loop-init g t c =
+    record {
+      folding = folding_first (cells_of_node c.args.e.now (g.A.Arrays.members c.args.row.now) c.args.scope.now) (axes_kept c.args.axes.now) c.new-tally.result c.new-tally.ensures.nothing c.new-tally.ensures.count;
+      rule = c.new-tally.ensures.rule ∙ c.rule_of.ensures;
+      here = λ _. c.first_point-q.ensures;
+      ends = c.volume_of-end.ensures.volume;
+      scope = refl;
+    }
+
+pub folded-returns-in_err-x-clause-cell : goal.folded-returns-in_err-x-clause-cell
+folded-returns-in_err-x-clause-cell g t c =
+    let p = err_from_is_err_and c.from_residual.result c.from_residual.ensures.1 in
+    let within : c.loop.counter < c.volume_of-end.result = omega arith in
+    let at = c.loop.invariant.here (subst (λ n. c.loop.counter < n) c.loop.invariant.ends within) in
+    rw (p.1, p.2) (folding_stop (cells_of_node c.args.e.now (g.A.Arrays.members c.args.row.now) c.args.scope.now) (axes_kept c.args.axes.now) (λ zs. cells_folded_of c.args.f zs) c.loop.counter c.loop.q.items c.loop.tally c.in_err-x.field-0.0 c.loop.invariant.folding at
+    (rw c.loop.invariant.scope at c.in_err-x.ensures.cell))
+
+pub folded-add-requires : goal.folded-add-requires
+folded-add-requires g t c = omega (arith, c.loop.invariant.folding.few, c.volume_of-end.ensures.small)
+
+pub folded-after-q-requires : goal.folded-after-q-requires
+folded-after-q-requires g t c =
+    let within : c.loop.counter < c.volume_of-end.result = omega arith in
+    IsIn-at_place (axes_kept c.args.axes.now) c.loop.counter c.loop.q.items (c.loop.invariant.here (subst (λ n. c.loop.counter < n) c.loop.invariant.ends within))
+
+pub folded-loop-preserved : goal.folded-loop-preserved
+folded-loop-preserved g t c =
+    let within : c.loop.counter < c.volume_of-end.result = omega arith in
+    let at = c.loop.invariant.here (subst (λ n. c.loop.counter < n) c.loop.invariant.ends within) in
+    record {
+      folding = folding_more (cells_of_node c.args.e.now (g.A.Arrays.members c.args.row.now) c.args.scope.now) (axes_kept c.args.axes.now) c.loop.counter c.loop.q.items c.loop.tally c.add.new.self c.in_ok-x.x c.loop.invariant.folding at
+        (rw c.loop.invariant.scope at c.in_ok-x.ensures.cell) c.add.ensures.added c.add.ensures.count;
+      rule = c.add.ensures.rule ∙ c.loop.invariant.rule;
+      here = λ more. at_next (points_of (axes_kept c.args.axes.now)) (c.loop.counter + 1) c.after-q.result.items more (c.after-q.ensures c.loop.counter at);
+      ends = c.loop.invariant.ends;
+      scope = c.cell.ensures.same ∙ c.loop.invariant.scope;
+    }
+
+pub folded-returns-clause-cell : goal.folded-returns-clause-cell
+folded-returns-clause-cell g t c =
+    let past : c.volume_of-end.result ≤ c.loop.counter = omega arith in
+    cells_fold_ends (cells_of_node c.args.e.now (g.A.Arrays.members c.args.row.now) c.args.scope.now) (axes_kept c.args.axes.now) c.args.f c.loop.counter c.loop.tally c.close.result c.told.result c.loop.invariant.folding
+    (subst (λ n. n ≤ c.loop.counter) c.loop.invariant.ends past) c.loop.invariant.rule c.close.ensures c.told.ensures
 
 pub cell-returns-in-Constant-clause-same : goal.cell-returns-in-Constant-clause-same
 cell-returns-in-Constant-clause-same g t c = refl
@@ -211,3 +309,47 @@ cell-returns-then-has_point-clause-same g t c = c.cell-then-has_point.ensures.sa
 
 pub cell-returns-in-Concat-clause-same : goal.cell-returns-in-Concat-clause-same
 cell-returns-in-Concat-clause-same g t c = c.joined.ensures.same
+
+pub joined-returns-then-has_point-clause-cell : goal.joined-returns-then-has_point-clause-cell
+joined-returns-then-has_point-clause-cell g t c =
+    gives_at (λ x. x) _ _ c.moved.result
+    (sym (joined_here (g.A.Arrays.members c.args.row.now) c.args.scope.now c.args.p.now.items c.args.parts.now c.loop-part.part-index c.part-item.result c.has_point.result _
+    (omega arith) c.part-item.is c.has_point.ensures c.if-has_point.true c.loop-part.invariant.rest))
+    (moved_gives (cells_of_node c.part-item.result.e (g.A.Arrays.members c.args.row.now) c.args.scope.now) _ c.moved_to-q.result c.moved.result
+    (rw (c.axes_of.ensures, c.axes_of-then-has_point.ensures) at c.moved_to-q.ensures) (rw c.loop-part.invariant.scope at c.moved.ensures.cell) c.moved.ensures.memory)
+
+pub joined-loop-part-preserved : goal.joined-loop-part-preserved
+joined-loop-part-preserved g t c =
+    record {
+      rest = joined_later (g.A.Arrays.members c.args.row.now) c.args.scope.now c.args.p.now.items c.args.parts.now c.loop-part.part-index c.part-item.result c.has_point.result _
+        (omega arith) c.part-item.is c.has_point.ensures c.if-has_point.false c.loop-part.invariant.rest;
+      scope = c.loop-part.invariant.scope;
+    }
+
+pub joined-returns-clause-cell : goal.joined-returns-clause-cell
+joined-returns-clause-cell g t c = joined_over (g.A.Arrays.members c.args.row.now) c.args.scope.now c.args.p.now.items c.args.parts.now c.loop-part.part-index _ (omega arith) c.loop-part.invariant.rest
+
+pub point_of-loop-position-init : goal.point_of-loop-position-init
+point_of-loop-position-init g t c =
+    record {
+      rest = rw (c.new.ensures, c.as_slice-left.ensures.value) (point_first (positions_by (map position_cells c.args.positions.now) (g.A.Arrays.members c.args.row.now) c.args.scope.now c.args.p.now.items));
+      scope = refl;
+    }
+
+pub point_of-returns-in_err-x-in-At-clause-point : goal.point_of-returns-in_err-x-in-At-clause-point
+point_of-returns-in_err-x-in-At-clause-point g t c =
+    let p = err_from_is_err_and c.from_residual.result c.from_residual.ensures.1 in
+    rw (p.1, p.2) (number_error (g.A.Arrays.members c.args.row.now) c.args.scope.now c.args.positions.now c.loop-position.position-index c.position-item.result c.in-At.e _ c.in_err-x-in-At.field-0.0 _ _
+    (omega arith) c.position-item.is c.in-At.is (rw (c.loop-position.invariant.scope, c.new-in-At.ensures) at c.in_err-x-in-At.ensures.cell) c.loop-position.invariant.rest)
+
+pub point_of-returns-in_default-left-clause-point : goal.point_of-returns-in_default-left-clause-point
+point_of-returns-in_default-left-clause-point g t c =
+    kept_out (g.A.Arrays.members c.args.row.now) c.args.scope.now c.args.positions.now c.loop-position.position-index c.position-item.result _ c.loop-position.left.now _
+    (omega arith) c.position-item.is c.in-Kept.is c.in_default-left.len_below c.loop-position.invariant.rest
+
+pub point_of-returns-clause-point : goal.point_of-returns-clause-point
+point_of-returns-clause-point g t c =
+    positions_over (g.A.Arrays.members c.args.row.now) c.args.scope.now c.args.positions.now c.loop-position.position-index _ c.loop-position.left.now _ (omega arith) c.loop-position.invariant.rest
+
+pub point_of-loop-position-preserved : goal.point_of-loop-position-preserved
+point_of-loop-position-preserved g t c = ?
