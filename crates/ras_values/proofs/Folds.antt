@@ -1,9 +1,7 @@
 -- A fold over the points of a box, a point after another.
-use Rattle.std.proofs.Common.{◌≡◌, ℕ, zero, suc, ◌+◌, ◌<◌, ◌≤◌, ℤ, pos, ◌+ℤ◌, List, [], ◌∷◌, ◌++◌, length, map, drop, get_or, Option, Some, None, Result, Ok, Err, Bool, true, false, refl, sym, ap, ◌∙◌, subst, arith}
+use Rattle.std.proofs.Common.{◌≡◌, ℕ, zero, suc, ◌+◌, ◌<◌, ◌≤◌, ℤ, List, [], ◌∷◌, ◌++◌, length, map, drop, Some, Result, Ok, Err, refl, sym, ap, ◌∙◌, subst, arith}
 use Rattle.std.specs.Prelude.{IfSome, option_to_list}
-use Rattle.std.specs.Int.{from_bool}
-use Rattle.std.specs.List.{slice_get, fold}
-use Rattle.std.proofs.lemmas.Int.{ints}
+use Rattle.std.specs.List.{slice_get}
 use Rattle.std.proofs.lemmas.List.{append-nil, append_assoc, drop_all}
 use Rattle.std.proofs.lemmas.Option.{slice_get_within, get_or_from_slice_get}
 use Rattle.std.proofs.Math.Seq.{drop-cons}
@@ -24,7 +22,7 @@ use Rattle.ras_values.specs.declared.tally.Tally.{Tally}
 use Rattle.ras_values.specs.Given.{GivesCell, StopsWith}
 use Rattle.ras_values.specs.Tallies.{HasAdded, rule_fold, rule_of_cells}
 use Rattle.ras_values.specs.declared.tally.Rule.TheVariants.{Fold}
-use Rattle.ras_values.specs.Folding.{IsFolding, IsAtPlace}
+use Rattle.ras_values.specs.Folding.{IsFolding}
 
 -- the numbers of outcomes
 abbrev Numbers : Type 0
@@ -90,7 +88,8 @@ module _ (cells : List ℤ → CellOutcome) (axes : Box) where
       → StopsWith (cells q) e → StopsWith (numbers_in (map cells (points_of axes)) >>= step) e
   folding_stop step place q tally e h at stops = folding-stops step place q tally h at (cells q) refl e stops
 
-  pub folding_end : (place : ℕ) (tally : Tally) → IsFolding cells axes place tally → length (points_of axes) ≤ place → (numbers : List ℤ) × HasAdded tally numbers × (numbers_in (map cells (points_of axes)) ≡ Ok numbers)
+  pub folding_end : (place : ℕ) (tally : Tally) → IsFolding cells axes place tally → length (points_of axes) ≤ place
+      → (numbers : List ℤ) × HasAdded tally numbers × (numbers_in (map cells (points_of axes)) ≡ Ok numbers)
   folding_end place tally h past =
       (h.numbers, h.added, h.rest ∙ ap (λ ps. numbers_in (map cells ps) >>= λ zs. Ok (h.numbers ++ zs)) (drop_all place (points_of axes) past) ∙ ap Ok (append-nil h.numbers))
 

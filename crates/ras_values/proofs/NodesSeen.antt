@@ -1,12 +1,11 @@
 -- What a prepared expression gives, by its form.
-use Rattle.std.proofs.Common.{◌≡◌, ℕ, ℤ, List, Option, refl, sym, ap, ◌∙◌, map}
+use Rattle.std.proofs.Common.{◌≡◌, ℕ, ℤ, List, Option, sym, ap, ◌∙◌, map}
 use Rattle.ras_cells.specs.declared.atom.Atom.{Atom}
 use Rattle.ras_cells.specs.declared.cell.Cell.{Cell}
 use Rattle.ras_cells.specs.declared.cell.CellFault.{CellFault}
 use Rattle.ras_cells.specs.declared.numbers.Op1.{Op1}
 use Rattle.ras_cells.specs.declared.numbers.Op2.{Op2}
 use Rattle.arrayvec.specs.ArrayVec.{ArrayVec}
-
 use Rattle.ras_syntax.specs.declared.expr.FoldOp.{FoldOp}
 use Rattle.ras_syntax.specs.declared.expr.CellsFold.{CellsFold}
 use Rattle.spec_expressions.specs.Shape.{Box}
@@ -45,7 +44,8 @@ pub seen_Binary : (op : Op2) (a b : Node) → cells_of_node (n.Binary op a b) �
 seen_Binary op a b =
     ap cells_of_node (sym (n.rolls-Binary op a b)) ∙ fold-roll-Node NodeCells (Option NodeCells) PartCells node_step position_step part_step (Node-F.Binary op a b)
 
-pub seen_Index : (e : Node) (axes : Option Box) (positions : List Position) → cells_of_node (n.Index e axes positions) ≡ node_step (Node-F.Index (cells_of_node e) axes (map position_cells positions))
+pub seen_Index : (e : Node) (axes : Option Box) (positions : List Position)
+    → cells_of_node (n.Index e axes positions) ≡ node_step (Node-F.Index (cells_of_node e) axes (map position_cells positions))
 seen_Index e axes positions =
     ap cells_of_node (sym (n.rolls-Index e axes positions)) ∙ fold-roll-Node NodeCells (Option NodeCells) PartCells node_step position_step part_step (Node-F.Index e axes positions)
 
@@ -89,4 +89,23 @@ pub seen_Concat : (parts : List Part) → cells_of_node (n.Concat parts) ≡ nod
 seen_Concat parts =
     ap cells_of_node (sym (n.rolls-Concat parts)) ∙ fold-roll-Node NodeCells (Option NodeCells) PartCells node_step position_step part_step (Node-F.Concat parts)
 
-pub ruleset nodes_seen = (seen_Constant, seen_Faulty, seen_Member, seen_Coordinate, seen_Unary, seen_Cast, seen_Binary, seen_Index, seen_AtPoint, seen_Component, seen_If, seen_Composite, seen_Marray, seen_Condense, seen_Folded, seen_Shift, seen_Extend, seen_Concat)
+pub ruleset nodes_seen = (
+  seen_Constant,
+  seen_Faulty,
+  seen_Member,
+  seen_Coordinate,
+  seen_Unary,
+  seen_Cast,
+  seen_Binary,
+  seen_Index,
+  seen_AtPoint,
+  seen_Component,
+  seen_If,
+  seen_Composite,
+  seen_Marray,
+  seen_Condense,
+  seen_Folded,
+  seen_Shift,
+  seen_Extend,
+  seen_Concat,
+)

@@ -1,10 +1,9 @@
 -- What the walk gives of a prepared expression, from what it gives of the parts.
-use Rattle.std.proofs.Common.{◌≡◌, ℕ, ℤ, List, [], ◌∷◌, ◌++◌, map, Option, Some, None, Result, Ok, Err, Bool, true, false, refl, sym, ap, ◌∙◌, subst}
-use Rattle.std.specs.Prelude.{IfSome, IfNone, neg_ℤ, if◌then◌else◌, slice_get, option_map}
+use Rattle.std.proofs.Common.{◌≡◌, ℕ, ℤ, List, map, Option, Some, None, Result, Ok, Err, Bool, true, false, refl, sym, ap, ◌∙◌, subst}
+use Rattle.std.specs.Prelude.{IfSome, IfNone, neg_ℤ, if◌then◌else◌, slice_get}
 use Rattle.arrayvec.specs.ArrayVec.{ArrayVec}
 use Rattle.ras_cells.specs.declared.atom.Atom.{Atom}
 use Rattle.ras_cells.specs.declared.cell.Cell.{Cell}
-use Rattle.ras_cells.specs.declared.cell.Cell.TheVariants.{Null}
 use Rattle.ras_cells.specs.declared.cell.CellFault.{CellFault}
 use Rattle.ras_cells.specs.declared.cell.CellFault.TheVariants.{IndexOut}
 use Rattle.ras_cells.specs.declared.numbers.Op1.{Op1}

@@ -1,5 +1,6 @@
 -- The loops of the walk: parts side by side, parts of a concat, and the positions of an index.
-use Rattle.std.proofs.Common.{◌≡◌, ℕ, suc, ◌+◌, ◌-◌, ◌<◌, ◌≤◌, get_or, ℤ, List, [], ◌∷◌, ◌++◌, length, map, take, drop, Option, Some, None, Result, Ok, Err, Bool, true, false, refl, sym, ap, ap₂, ◌∙◌, subst, arith}
+use Rattle.std.proofs.Common.{◌≡◌, ℕ, suc, ◌+◌, ◌-◌, ◌<◌, ◌≤◌, get_or, ℤ, List, [], ◌∷◌, ◌++◌, length, map, take, drop, Option, Some, None, Result, Ok, Err, Bool, true, false, refl, sym}
+use Rattle.std.proofs.Common.{ap, ap₂, ◌∙◌, subst, arith}
 use Rattle.std.specs.Prelude.{if◌then◌else◌}
 use Rattle.std.proofs.Math.Seq.{drop-cons, take-append_seam}
 use Rattle.arrayvec.specs.ArrayVec.{ArrayVec}
@@ -16,7 +17,8 @@ use Rattle.ras_values.specs.declared.error.CellError.{CellError}
 use Rattle.ras_values.specs.declared.error.CellError.TheVariants.{Fault, Memory}
 use Rattle.ras_values.specs.Folding.{added_to}
 use Rattle.ras_values.specs.Given.{GivesCell, GivesSeen, StopsWith, point_seen}
-use Rattle.ras_values.specs.Nodes.{NodeCells, PartCells, axes_kept, cells_of_node, composed_of, each_cell, joined_at, node_step, part_cells, part_step, position_cells, position_step, positions_by, seen_at}
+use Rattle.ras_values.specs.Nodes.{NodeCells, PartCells, axes_kept, cells_of_node, composed_of, each_cell, joined_at, node_step, part_cells, part_step, position_cells, position_step}
+use Rattle.ras_values.specs.Nodes.{positions_by, seen_at}
 use Rattle.ras_values.specs.declared.node.Node.{Node}
 use Rattle.ras_values.specs.declared.node.Node.TheOpen.{Position-F}
 use Rattle.ras_values.specs.declared.node.Part.{Part, out-Part, fold_out-Part}
@@ -34,6 +36,11 @@ pub from_item : {A : Type 0} (xs : List A) (i : ℕ) (x : A) → i < length xs �
 from_item xs i x within is =
     let next : suc i ≡ i + 1 = omega arith in
     drop-cons xs i x within ∙ ap (λ y. y ∷ drop (suc i) xs) (sym is) ∙ ap (λ n. x ∷ drop n xs) next
+
+-- the first item, whatever stands for none
+pub get_first : {A : Type 0} (xs : List A) (d e : A) → 1 ≤ length xs → get_or xs 0 d ≡ get_or xs 0 e
+get_first [] d e some = absurd (omega (arith, some))
+get_first (x ∷ xs) d e some = refl
 
 -- ---- what follows from a look
 
@@ -192,7 +199,8 @@ module _ (row : List Member) (points : List (List ℤ)) where
       ap (λ xs. positions_by (map position_cells xs) row points left) (from_item positions i x within is)
       ∙ ap (λ l. positions_by (l ∷ map position_cells (drop (i + 1) positions)) row points left) (ap position_cells form ∙ seen)
 
-  pub number_next : (positions : List Position) (i : ℕ) (x : Position) (e : Node) (q more : Option (List ℤ)) (v : Cell) (left : List ℤ) (total : Result (Option (List ℤ)) CellFault) → i < length positions
+  pub number_next : (positions : List Position) (i : ℕ) (x : Position) (e : Node) (q more : Option (List ℤ)) (v : Cell) (left : List ℤ) (total : Result (Option (List ℤ)) CellFault)
+      → i < length positions
       → x ≡ get_or positions i x → x ≡ ps.At e → cells_of_node e row points [] ≡ Ok v → more ≡ added_to q (position_in v)
       → total ≡ point_with q (positions_by (map position_cells (drop i positions)) row points left)
       → total ≡ point_with more (positions_by (map position_cells (drop (i + 1) positions)) row points left)
@@ -255,15 +263,17 @@ module _ (row : List Member) (points : List (List ℤ)) (p : List ℤ) where
       → total ≡ cells_of_node (out-Part x).e row points (moved_between (axes_kept (out-Part x).place) (axes_kept (out-Part x).own) p)
   joined_here parts i x b total within is found yes_is so_far =
       so_far ∙ part-at parts i x within is
-      ∙ ap (λ b. if b then cells_of_node (out-Part x).e row points (moved_between (axes_kept (out-Part x).place) (axes_kept (out-Part x).own) p) else joined_at (map part_cells (drop (i + 1) parts)) row points p)
-        (sym found ∙ yes_is)
+      ∙ ap (λ b. if b then cells_of_node (out-Part x).e row points (moved_between (axes_kept (out-Part x).place) (axes_kept (out-Part x).own) p) else joined_at (map part_cells (drop
+      (i + 1) parts)) row points p)
+      (sym found ∙ yes_is)
 
   pub joined_later : (parts : List Part) (i : ℕ) (x : Part) (b : Bool) (total : CellOutcome) → i < length parts → x ≡ get_or parts i x → b ≡ is_in p (axes_kept (out-Part x).place) → b ≡ false
       → total ≡ joined_at (map part_cells (drop i parts)) row points p → total ≡ joined_at (map part_cells (drop (i + 1) parts)) row points p
   joined_later parts i x b total within is found no_is so_far =
       so_far ∙ part-at parts i x within is
-      ∙ ap (λ b. if b then cells_of_node (out-Part x).e row points (moved_between (axes_kept (out-Part x).place) (axes_kept (out-Part x).own) p) else joined_at (map part_cells (drop (i + 1) parts)) row points p)
-        (sym found ∙ no_is)
+      ∙ ap (λ b. if b then cells_of_node (out-Part x).e row points (moved_between (axes_kept (out-Part x).place) (axes_kept (out-Part x).own) p) else joined_at (map part_cells (drop
+      (i + 1) parts)) row points p)
+      (sym found ∙ no_is)
 
   pub joined_over : (parts : List Part) (i : ℕ) (total : CellOutcome) → length parts ≤ i → total ≡ joined_at (map part_cells (drop i parts)) row points p → total ≡ Err IndexOut
   joined_over parts i total past so_far = so_far ∙ ap (λ xs. joined_at (map part_cells xs) row points p) (drop_all i parts past)

@@ -1,5 +1,5 @@
 -- Whether a point lies in a box.
-use Rattle.std.proofs.Common.{◌≡◌, ℤ, List, [], ◌∷◌, length, Bool, true, false, refl, sym, ◌∙◌, arith}
+use Rattle.std.proofs.Common.{◌≡◌, ℤ, List, [], ◌∷◌, length, Bool, true, false, refl, sym, arith}
 use Rattle.std.specs.Prelude.{IsTrue, ◌↔◌, ◌==◌}
 use Rattle.ras_domain.specs.declared.region.Interval.{Interval}
 use Rattle.ras_domain.specs.Region.{IsIn, is_in}

@@ -1,5 +1,5 @@
 -- Folds of both kinds, a number after another.
-use Rattle.std.specs.Prelude.{◌≡◌, ℕ, ℤ, pos, List, [], map, count_by, Option, option_map}
+use Rattle.std.specs.Prelude.{◌≡◌, ℤ, pos, List, [], map, count_by, Option, option_map}
 use Rattle.std.specs.Int.{from_bool}
 use Rattle.ras_cells.specs.Numbers.{is_true}
 use Rattle.ras_fold.specs.Summary.{summary_of}

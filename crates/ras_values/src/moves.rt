@@ -1,5 +1,6 @@
 //! Points moved along.
-ghost use Rattle.std.specs.Prelude.{◌≡◌, ◌+◌, ◌≤◌, ◌-ℤ◌, ◌+ℤ◌, ◌++◌, neg_ℤ, length, map, true, FitsSigned, IfSome, SomeIff};
+ghost use Rattle.std.specs.Prelude.{◌≡◌, ◌+◌, ◌≤◌, ◌-ℤ◌, ◌+ℤ◌, ◌++◌, neg_ℤ};
+ghost use Rattle.std.specs.Prelude.{length, map, true, FitsSigned, IfSome, SomeIff};
 ghost use Rattle.std.specs.Int.{w64};
 ghost use Rattle.ras_domain.specs.Boxes.{moved_by};
 ghost use Rattle.spec_expressions.specs.Eval.{moved_between};

@@ -5,7 +5,8 @@ ghost use Rattle.ras_cells.specs.declared.cell.CellFault.{CellFault as CellFault
 ghost use Rattle.ras_cells.specs.Cells.{outcome1, outcome2};
 ghost use Rattle.spec_expressions.specs.Eval.{coordinate_of, holds as holds_of};
 ghost use Rattle.ras_values.specs.Nodes.{axes_kept};
-ghost use Rattle.ras_values.specs.Given.{GivesCell, GivesSeen, Makes, MakesOfBoth, tested, cast_outcome, component_in, looked_up, point_seen};
+ghost use Rattle.ras_values.specs.Given.{GivesCell, GivesSeen, Makes, MakesOfBoth};
+ghost use Rattle.ras_values.specs.Given.{tested, cast_outcome, component_in, looked_up, point_seen};
 
 use crate::boxes::has_point;
 use crate::error::CellError;

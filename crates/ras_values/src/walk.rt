@@ -4,7 +4,8 @@ ghost use Rattle.ras_domain.specs.Region.{points_of};
 ghost use Rattle.spec_expressions.specs.Fold.{fold_of, cells_fold_of};
 ghost use Rattle.ras_cells.specs.declared.cell.CellFault.{CellFault as CellFaultValue};
 ghost use Rattle.ras_values.specs.declared.error.CellError.TheVariants.{Memory};
-ghost use Rattle.ras_values.specs.Nodes.{axes_kept, cells_of_node, composed_of, condensed_at, each_cell, joined_at, part_cells, position_cells, positions_by, seen_at};
+ghost use Rattle.ras_values.specs.Nodes.{axes_kept, cells_of_node, composed_of, condensed_at, each_cell};
+ghost use Rattle.ras_values.specs.Nodes.{joined_at, part_cells, position_cells, positions_by, seen_at};
 ghost use Rattle.ras_values.specs.Given.{GivesCell, GivesSeen, point_seen};
 
 use crate::arrays::Arrays;
@@ -60,7 +61,11 @@ pub fn cell<A: Arrays>(node: &Node, row: &A, scope: &mut Points, p: &Point) -> O
             let e = cell(e.get(), row, scope, p);
             component_of(e, part)
         }
-        Node::If { condition, e, other } => {
+        Node::If {
+            condition,
+            e,
+            other,
+        } => {
             let test = cell(condition.get(), row, scope, p);
             match test_of(test) {
                 Ok(true) => cell(e.get(), row, scope, p),
@@ -141,7 +146,8 @@ fn condense<A: Arrays>(
     row: &A,
     scope: &mut Points,
 ) -> Outcome
-    ensures cell { GivesCell (fold_of op (map (condensed_at (cells_of_node e.now) (A.members row.now) scope.old) (points_of (axes_kept axes.now)))) result }
+    ensures cell { GivesCell (fold_of op
+        (map (condensed_at (cells_of_node e.now) (A.members row.now) scope.old) (points_of (axes_kept axes.now)))) result }
     ensures same { scope.new ≡ scope.old }
 {
     let mut tally = Tally::new(Rule::Fold(op));
@@ -163,7 +169,8 @@ fn folded<A: Arrays>(
     row: &A,
     scope: &mut Points,
 ) -> Outcome
-    ensures cell { GivesCell (cells_fold_of f (map (cells_of_node e.now (A.members row.now) scope.old) (points_of (axes_kept axes.now)))) result }
+    ensures cell { GivesCell (cells_fold_of f
+        (map (cells_of_node e.now (A.members row.now) scope.old) (points_of (axes_kept axes.now)))) result }
     ensures same { scope.new ≡ scope.old }
 {
     let mut tally = Tally::new(rule_of(f));
@@ -179,7 +186,8 @@ fn folded<A: Arrays>(
 /// The components side by side.
 #[cycle(cells)]
 fn composite<A: Arrays>(parts: &[Node], row: &A, scope: &mut Points, p: &Point) -> Outcome
-    ensures cell { GivesCell (composed_of (each_cell (map cells_of_node parts.now) (A.members row.now) scope.old p.now.items)) result }
+    ensures cell { GivesCell (composed_of (each_cell (map cells_of_node parts.now)
+        (A.members row.now) scope.old p.now.items)) result }
     ensures same { scope.new ≡ scope.old }
 {
     let mut whole = Cell::Value(Numbers::new());
@@ -201,7 +209,8 @@ fn point_of<A: Arrays>(
     scope: &mut Points,
     p: &Point,
 ) -> Result<Option<Point>, CellError>
-    ensures point { GivesSeen point_seen (positions_by (map position_cells positions.now) (A.members row.now) scope.old p.now.items) result }
+    ensures point { GivesSeen point_seen
+        (positions_by (map position_cells positions.now) (A.members row.now) scope.old p.now.items) result }
     ensures same { scope.new ≡ scope.old }
 {
     let mut q = Some(Point::new());

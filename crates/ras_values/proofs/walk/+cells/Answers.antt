@@ -1,16 +1,18 @@
-use Rattle.std.proofs.Common.{◌≡◌, ◌+◌, ◌<◌, ◌≤◌, ℕ, Ok, true, false, map, refl, sym, ap, subst, ◌∙◌, arith}
+use Rattle.std.proofs.Common.{◌+◌, ◌<◌, ◌≤◌, ℤ, pos, List, Some, Ok, ap₂, true, false, map, refl, sym, ap, subst, ◌∙◌, arith}
 use Rattle.std.proofs.lemmas.Result.{err_from_is_err_and}
 use Rattle.ras_domain.specs.Region.{points_of}
 use Rattle.ras_domain.proofs.Walks.{IsIn-at_place}
 use Rattle.spec_expressions.specs.Fold.{folded_of, cells_folded_of}
 use Rattle.ras_values.specs.Nodes.{axes_kept, cells_of_node, condensed_at, each_cell, position_cells, positions_by}
+use Rattle.ras_values.specs.Given.{point_seen}
 use Rattle.ras_values.proofs.Folds.{at_next, cells_fold_ends, fold_ends, folding_first, folding_more, folding_stop}
 use Rattle.ras_values.proofs.WalkArms.{gives_at, moved_gives}
-use Rattle.ras_values.proofs.WalkLoops.{joined_here, joined_later, joined_over, kept_next, kept_out, number_error, number_next, point_first, positions_over}
+use Rattle.ras_values.proofs.WalkLoops.{get_first, joined_here, joined_later, joined_over, kept_next, kept_out, number_error, number_next, point_first, point_with, positions_over}
 use Rattle.ras_values.proofs.WalkLoops.{look_error, look_none, look_some, take_back, whole_error, whole_next, whole_over, whole_start}
 use Rattle.ras_values.proofs.WalkArms.{arm_Constant, arm_Faulty, arm_Member, arm_Coordinate, arm_Unary, arm_Cast, arm_Binary, arm_Index, arm_AtPoint, arm_Component, arm_If, arm_If_stops}
 use Rattle.ras_values.proofs.WalkArms.{arm_Composite, arm_Marray, arm_Condense, arm_Folded, arm_Shift, arm_Extend, arm_outside, arm_Concat}
 use Rattle.ras_values.proofs.walk.+cells.Goals as goal
+use Rattle.ras_values.proofs.walk.+cells.Goals.{point_of-in-At+in_ok-x-in-At+in-Ok, point_of-in-Kept+in-len1-up+in-Ok-with_coordinate}
 
 pub cell-returns-in-Constant-clause-cell : goal.cell-returns-in-Constant-clause-cell
 cell-returns-in-Constant-clause-cell g t c = arm_Constant (g.A.Arrays.members c.args.row.now) c.args.scope.now c.args.p.now.items c.args.node.now _ _ c.in-Constant.is c.copy_of.ensures
@@ -32,7 +34,8 @@ cell-returns-in-Unary-clause-cell g t c =
 
 pub cell-returns-in-Cast-clause-cell : goal.cell-returns-in-Cast-clause-cell
 cell-returns-in-Cast-clause-cell g t c =
-    arm_Cast (g.A.Arrays.members c.args.row.now) c.args.scope.now c.args.p.now.items c.args.node.now _ _ _ _ c.in-Cast.is (rw c.get-in-Cast.ensures at c.cell-e-in-Cast.ensures.cell) c.cast_of.ensures
+    arm_Cast (g.A.Arrays.members c.args.row.now) c.args.scope.now c.args.p.now.items c.args.node.now _ _ _ _ c.in-Cast.is
+    (rw c.get-in-Cast.ensures at c.cell-e-in-Cast.ensures.cell) c.cast_of.ensures
 
 pub cell-returns-in-Binary-clause-cell : goal.cell-returns-in-Binary-clause-cell
 cell-returns-in-Binary-clause-cell g t c =
@@ -57,12 +60,14 @@ cell-returns-in-Component-clause-cell g t c =
 pub cell-returns-in-Ok-true-clause-cell : goal.cell-returns-in-Ok-true-clause-cell
 cell-returns-in-Ok-true-clause-cell g t c =
     arm_If (g.A.Arrays.members c.args.row.now) c.args.scope.now c.args.p.now.items c.args.node.now _ _ _ true _ _ _ c.in-If.is
-    (rw c.get-in-If.ensures at c.cell-test.ensures.cell) c.test_of.ensures (c.in-Ok-true.is ∙ ap (λ b. Ok b) c.in-Ok-true.field-0-test) (rw (c.get-in-Ok-true.ensures, c.cell-test.ensures.same) at c.cell-in-Ok-true.ensures.cell)
+    (rw c.get-in-If.ensures at c.cell-test.ensures.cell) c.test_of.ensures (c.in-Ok-true.is ∙ ap (λ b. Ok b) c.in-Ok-true.field-0-test) (rw
+    (c.get-in-Ok-true.ensures, c.cell-test.ensures.same) at c.cell-in-Ok-true.ensures.cell)
 
 pub cell-returns-in-Ok-false-clause-cell : goal.cell-returns-in-Ok-false-clause-cell
 cell-returns-in-Ok-false-clause-cell g t c =
     arm_If (g.A.Arrays.members c.args.row.now) c.args.scope.now c.args.p.now.items c.args.node.now _ _ _ false _ _ _ c.in-If.is
-    (rw c.get-in-If.ensures at c.cell-test.ensures.cell) c.test_of.ensures (c.in-Ok-false.is ∙ ap (λ b. Ok b) c.in-Ok-false.field-0-test) (rw (c.get-in-Ok-false.ensures, c.cell-test.ensures.same) at c.cell-in-Ok-false.ensures.cell)
+    (rw c.get-in-If.ensures at c.cell-test.ensures.cell) c.test_of.ensures (c.in-Ok-false.is ∙ ap (λ b. Ok b) c.in-Ok-false.field-0-test) (rw
+    (c.get-in-Ok-false.ensures, c.cell-test.ensures.same) at c.cell-in-Ok-false.ensures.cell)
 
 pub cell-returns-in-Err-clause-cell : goal.cell-returns-in-Err-clause-cell
 cell-returns-in-Err-clause-cell g t c =
@@ -115,7 +120,8 @@ entered-returns-in-Err-clause-same g t c = c.in-Err.ensures.err
 
 pub looked_at-returns-in-Ok-Some-clause-cell : goal.looked_at-returns-in-Ok-Some-clause-cell
 looked_at-returns-in-Ok-Some-clause-cell g t c =
-    look_some (cells_of_node c.args.e.now (g.A.Arrays.members c.args.row.now) c.args.scope.now) c.args.q _ c.cell.result (c.in-Ok-Some.is ∙ ap (λ o. Ok o) c.in-Ok-Some.field-0-is) c.cell.ensures.cell
+    look_some (cells_of_node c.args.e.now (g.A.Arrays.members c.args.row.now) c.args.scope.now) c.args.q _ c.cell.result (c.in-Ok-Some.is ∙ ap
+    (λ o. Ok o) c.in-Ok-Some.field-0-is) c.cell.ensures.cell
 
 pub looked_at-returns-in-Ok-None-clause-cell : goal.looked_at-returns-in-Ok-None-clause-cell
 looked_at-returns-in-Ok-None-clause-cell g t c =
@@ -137,19 +143,25 @@ pub moved-returns-in-None-clause-memory : goal.moved-returns-in-None-clause-memo
 moved-returns-in-None-clause-memory g t c = rw c.in-None.is refl
 
 pub composite-loop-part-init : goal.composite-loop-part-init
-composite-loop-part-init g t c = record { rest = whole_start c.new.result c.new.ensures (each_cell (map cells_of_node c.args.parts.now) (g.A.Arrays.members c.args.row.now) c.args.scope.now c.args.p.now.items); scope = refl }
+composite-loop-part-init g t c = record {
+  rest = whole_start c.new.result c.new.ensures (each_cell (map cells_of_node c.args.parts.now)
+      (g.A.Arrays.members c.args.row.now) c.args.scope.now c.args.p.now.items);
+  scope = refl;
+}
 
 pub composite-returns-in_err-x-clause-cell : goal.composite-returns-in_err-x-clause-cell
 composite-returns-in_err-x-clause-cell g t c =
     let p = err_from_is_err_and c.from_residual.result c.from_residual.ensures.1 in
-    rw (p.1, p.2) (whole_error (g.A.Arrays.members c.args.row.now) c.args.scope.now c.args.p.now.items c.args.parts.now c.loop-part.part-index c.part-item.result c.loop-part.whole c.in_err-x.field-0.0 _
+    rw (p.1, p.2) (whole_error (g.A.Arrays.members c.args.row.now) c.args.scope.now c.args.p.now.items c.args.parts.now c.loop-part.part-index c.part-item.result c.loop-part.whole
+    c.in_err-x.field-0.0 _
     (omega arith) c.part-item.is (rw c.loop-part.invariant.scope at c.in_err-x.ensures.cell) c.loop-part.invariant.rest)
 
 pub composite-loop-part-preserved : goal.composite-loop-part-preserved
 composite-loop-part-preserved g t c =
     record {
-      rest = whole_next (g.A.Arrays.members c.args.row.now) c.args.scope.now c.args.p.now.items c.args.parts.now c.loop-part.part-index c.part-item.result c.loop-part.whole c.in-Some.both c.in_ok-x.x _
-        (omega arith) c.part-item.is (rw c.loop-part.invariant.scope at c.in_ok-x.ensures.cell) (rw c.in-Some.is at c.side_by_side.ensures) c.loop-part.invariant.rest;
+      rest = whole_next (g.A.Arrays.members c.args.row.now) c.args.scope.now c.args.p.now.items c.args.parts.now c.loop-part.part-index c.part-item.result c.loop-part.whole c.in-Some.both
+          c.in_ok-x.x _
+          (omega arith) c.part-item.is (rw c.loop-part.invariant.scope at c.in_ok-x.ensures.cell) (rw c.in-Some.is at c.side_by_side.ensures) c.loop-part.invariant.rest;
       scope = c.cell.ensures.same ∙ c.loop-part.invariant.scope;
     }
 
@@ -160,7 +172,8 @@ composite-returns-clause-cell g t c =
 pub condense-loop-init : goal.condense-loop-init
 condense-loop-init g t c =
     record {
-      folding = folding_first (condensed_at (cells_of_node c.args.e.now) (g.A.Arrays.members c.args.row.now) c.args.scope.now) (axes_kept c.args.axes.now) c.new-tally.result c.new-tally.ensures.nothing c.new-tally.ensures.count;
+      folding = folding_first (condensed_at (cells_of_node c.args.e.now) (g.A.Arrays.members c.args.row.now) c.args.scope.now)
+          (axes_kept c.args.axes.now) c.new-tally.result c.new-tally.ensures.nothing c.new-tally.ensures.count;
       rule = c.new-tally.ensures.rule;
       here = λ _. c.first_point-q.ensures;
       ends = c.volume_of-end.ensures.volume;
@@ -172,7 +185,8 @@ condense-returns-in_err-x-clause-cell g t c =
     let p = err_from_is_err_and c.from_residual.result c.from_residual.ensures.1 in
     let within : c.loop.counter < c.volume_of-end.result = omega arith in
     let at = c.loop.invariant.here (subst (λ n. c.loop.counter < n) c.loop.invariant.ends within) in
-    rw (p.1, p.2) (folding_stop (condensed_at (cells_of_node c.args.e.now) (g.A.Arrays.members c.args.row.now) c.args.scope.now) (axes_kept c.args.axes.now) (λ zs. folded_of c.args.op zs) c.loop.counter c.loop.q.items c.loop.tally c.in_err-x.field-0.0 c.loop.invariant.folding at
+    rw (p.1, p.2) (folding_stop (condensed_at (cells_of_node c.args.e.now) (g.A.Arrays.members c.args.row.now) c.args.scope.now) (axes_kept c.args.axes.now)
+    (λ zs. folded_of c.args.op zs) c.loop.counter c.loop.q.items c.loop.tally c.in_err-x.field-0.0 c.loop.invariant.folding at
     (rw c.loop.invariant.scope at c.in_err-x.ensures.cell))
 
 pub condense-add-requires : goal.condense-add-requires
@@ -188,8 +202,9 @@ condense-loop-preserved g t c =
     let within : c.loop.counter < c.volume_of-end.result = omega arith in
     let at = c.loop.invariant.here (subst (λ n. c.loop.counter < n) c.loop.invariant.ends within) in
     record {
-      folding = folding_more (condensed_at (cells_of_node c.args.e.now) (g.A.Arrays.members c.args.row.now) c.args.scope.now) (axes_kept c.args.axes.now) c.loop.counter c.loop.q.items c.loop.tally c.add.new.self c.in_ok-x.x c.loop.invariant.folding at
-        (rw c.loop.invariant.scope at c.in_ok-x.ensures.cell) c.add.ensures.added c.add.ensures.count;
+      folding = folding_more (condensed_at (cells_of_node c.args.e.now) (g.A.Arrays.members c.args.row.now) c.args.scope.now)
+          (axes_kept c.args.axes.now) c.loop.counter c.loop.q.items c.loop.tally c.add.new.self c.in_ok-x.x c.loop.invariant.folding at
+          (rw c.loop.invariant.scope at c.in_ok-x.ensures.cell) c.add.ensures.added c.add.ensures.count;
       rule = c.add.ensures.rule ∙ c.loop.invariant.rule;
       here = λ more. at_next (points_of (axes_kept c.args.axes.now)) (c.loop.counter + 1) c.after-q.result.items more (c.after-q.ensures c.loop.counter at);
       ends = c.loop.invariant.ends;
@@ -199,13 +214,15 @@ condense-loop-preserved g t c =
 pub condense-returns-clause-cell : goal.condense-returns-clause-cell
 condense-returns-clause-cell g t c =
     let past : c.volume_of-end.result ≤ c.loop.counter = omega arith in
-    fold_ends (condensed_at (cells_of_node c.args.e.now) (g.A.Arrays.members c.args.row.now) c.args.scope.now) (axes_kept c.args.axes.now) c.args.op c.loop.counter c.loop.tally c.close.result c.told.result c.loop.invariant.folding
+    fold_ends (condensed_at (cells_of_node c.args.e.now) (g.A.Arrays.members c.args.row.now) c.args.scope.now)
+    (axes_kept c.args.axes.now) c.args.op c.loop.counter c.loop.tally c.close.result c.told.result c.loop.invariant.folding
     (subst (λ n. n ≤ c.loop.counter) c.loop.invariant.ends past) c.loop.invariant.rule c.close.ensures c.told.ensures
 
 pub folded-loop-init : goal.folded-loop-init
 folded-loop-init g t c =
     record {
-      folding = folding_first (cells_of_node c.args.e.now (g.A.Arrays.members c.args.row.now) c.args.scope.now) (axes_kept c.args.axes.now) c.new-tally.result c.new-tally.ensures.nothing c.new-tally.ensures.count;
+      folding = folding_first (cells_of_node c.args.e.now (g.A.Arrays.members c.args.row.now) c.args.scope.now)
+          (axes_kept c.args.axes.now) c.new-tally.result c.new-tally.ensures.nothing c.new-tally.ensures.count;
       rule = c.new-tally.ensures.rule ∙ c.rule_of.ensures;
       here = λ _. c.first_point-q.ensures;
       ends = c.volume_of-end.ensures.volume;
@@ -217,7 +234,8 @@ folded-returns-in_err-x-clause-cell g t c =
     let p = err_from_is_err_and c.from_residual.result c.from_residual.ensures.1 in
     let within : c.loop.counter < c.volume_of-end.result = omega arith in
     let at = c.loop.invariant.here (subst (λ n. c.loop.counter < n) c.loop.invariant.ends within) in
-    rw (p.1, p.2) (folding_stop (cells_of_node c.args.e.now (g.A.Arrays.members c.args.row.now) c.args.scope.now) (axes_kept c.args.axes.now) (λ zs. cells_folded_of c.args.f zs) c.loop.counter c.loop.q.items c.loop.tally c.in_err-x.field-0.0 c.loop.invariant.folding at
+    rw (p.1, p.2) (folding_stop (cells_of_node c.args.e.now (g.A.Arrays.members c.args.row.now) c.args.scope.now) (axes_kept c.args.axes.now)
+    (λ zs. cells_folded_of c.args.f zs) c.loop.counter c.loop.q.items c.loop.tally c.in_err-x.field-0.0 c.loop.invariant.folding at
     (rw c.loop.invariant.scope at c.in_err-x.ensures.cell))
 
 pub folded-add-requires : goal.folded-add-requires
@@ -233,8 +251,9 @@ folded-loop-preserved g t c =
     let within : c.loop.counter < c.volume_of-end.result = omega arith in
     let at = c.loop.invariant.here (subst (λ n. c.loop.counter < n) c.loop.invariant.ends within) in
     record {
-      folding = folding_more (cells_of_node c.args.e.now (g.A.Arrays.members c.args.row.now) c.args.scope.now) (axes_kept c.args.axes.now) c.loop.counter c.loop.q.items c.loop.tally c.add.new.self c.in_ok-x.x c.loop.invariant.folding at
-        (rw c.loop.invariant.scope at c.in_ok-x.ensures.cell) c.add.ensures.added c.add.ensures.count;
+      folding = folding_more (cells_of_node c.args.e.now (g.A.Arrays.members c.args.row.now) c.args.scope.now)
+          (axes_kept c.args.axes.now) c.loop.counter c.loop.q.items c.loop.tally c.add.new.self c.in_ok-x.x c.loop.invariant.folding at
+          (rw c.loop.invariant.scope at c.in_ok-x.ensures.cell) c.add.ensures.added c.add.ensures.count;
       rule = c.add.ensures.rule ∙ c.loop.invariant.rule;
       here = λ more. at_next (points_of (axes_kept c.args.axes.now)) (c.loop.counter + 1) c.after-q.result.items more (c.after-q.ensures c.loop.counter at);
       ends = c.loop.invariant.ends;
@@ -244,7 +263,8 @@ folded-loop-preserved g t c =
 pub folded-returns-clause-cell : goal.folded-returns-clause-cell
 folded-returns-clause-cell g t c =
     let past : c.volume_of-end.result ≤ c.loop.counter = omega arith in
-    cells_fold_ends (cells_of_node c.args.e.now (g.A.Arrays.members c.args.row.now) c.args.scope.now) (axes_kept c.args.axes.now) c.args.f c.loop.counter c.loop.tally c.close.result c.told.result c.loop.invariant.folding
+    cells_fold_ends (cells_of_node c.args.e.now (g.A.Arrays.members c.args.row.now) c.args.scope.now)
+    (axes_kept c.args.axes.now) c.args.f c.loop.counter c.loop.tally c.close.result c.told.result c.loop.invariant.folding
     (subst (λ n. n ≤ c.loop.counter) c.loop.invariant.ends past) c.loop.invariant.rule c.close.ensures c.told.ensures
 
 pub cell-returns-in-Constant-clause-same : goal.cell-returns-in-Constant-clause-same
@@ -322,24 +342,28 @@ pub joined-loop-part-preserved : goal.joined-loop-part-preserved
 joined-loop-part-preserved g t c =
     record {
       rest = joined_later (g.A.Arrays.members c.args.row.now) c.args.scope.now c.args.p.now.items c.args.parts.now c.loop-part.part-index c.part-item.result c.has_point.result _
-        (omega arith) c.part-item.is c.has_point.ensures c.if-has_point.false c.loop-part.invariant.rest;
+          (omega arith) c.part-item.is c.has_point.ensures c.if-has_point.false c.loop-part.invariant.rest;
       scope = c.loop-part.invariant.scope;
     }
 
 pub joined-returns-clause-cell : goal.joined-returns-clause-cell
-joined-returns-clause-cell g t c = joined_over (g.A.Arrays.members c.args.row.now) c.args.scope.now c.args.p.now.items c.args.parts.now c.loop-part.part-index _ (omega arith) c.loop-part.invariant.rest
+joined-returns-clause-cell g t c = joined_over (g.A.Arrays.members c.args.row.now) c.args.scope.now c.args.p.now.items c.args.parts.now c.loop-part.part-index _
+    (omega arith) c.loop-part.invariant.rest
 
 pub point_of-loop-position-init : goal.point_of-loop-position-init
 point_of-loop-position-init g t c =
     record {
-      rest = rw (c.new.ensures, c.as_slice-left.ensures.value) (point_first (positions_by (map position_cells c.args.positions.now) (g.A.Arrays.members c.args.row.now) c.args.scope.now c.args.p.now.items));
+      rest = point_first (positions_by (map position_cells c.args.positions.now) (g.A.Arrays.members c.args.row.now) c.args.scope.now c.args.p.now.items)
+          ∙ ap₂ (λ (xs ys : List ℤ). point_with (Some xs) (positions_by (map position_cells c.args.positions.now) (g.A.Arrays.members c.args.row.now) c.args.scope.now ys)) (sym c.new.ensures)
+          (sym c.as_slice-left.ensures.value);
       scope = refl;
     }
 
 pub point_of-returns-in_err-x-in-At-clause-point : goal.point_of-returns-in_err-x-in-At-clause-point
 point_of-returns-in_err-x-in-At-clause-point g t c =
     let p = err_from_is_err_and c.from_residual.result c.from_residual.ensures.1 in
-    rw (p.1, p.2) (number_error (g.A.Arrays.members c.args.row.now) c.args.scope.now c.args.positions.now c.loop-position.position-index c.position-item.result c.in-At.e _ c.in_err-x-in-At.field-0.0 _ _
+    rw (p.1, p.2) (number_error (g.A.Arrays.members c.args.row.now) c.args.scope.now c.args.positions.now c.loop-position.position-index c.position-item.result c.in-At.e _
+    c.in_err-x-in-At.field-0.0 _ _
     (omega arith) c.position-item.is c.in-At.is (rw (c.loop-position.invariant.scope, c.new-in-At.ensures) at c.in_err-x-in-At.ensures.cell) c.loop-position.invariant.rest)
 
 pub point_of-returns-in_default-left-clause-point : goal.point_of-returns-in_default-left-clause-point
@@ -352,4 +376,21 @@ point_of-returns-clause-point g t c =
     positions_over (g.A.Arrays.members c.args.row.now) c.args.scope.now c.args.positions.now c.loop-position.position-index _ c.loop-position.left.now _ (omega arith) c.loop-position.invariant.rest
 
 pub point_of-loop-position-preserved : goal.point_of-loop-position-preserved
-point_of-loop-position-preserved g t c = ?
+point_of-loop-position-preserved g t c =
+    elim c.match-position.branch [
+      | point_of-in-At+in_ok-x-in-At+in-Ok w ↦ record {
+        rest = rw (w.q-is, w.left-is) (number_next (g.A.Arrays.members c.args.row.now) c.args.scope.now c.args.positions.now c.loop-position.position-index c.position-item.result w.in-At.e
+            (point_seen c.loop-position.q)
+            (point_seen w.in-Ok.more) w.in_ok-x-in-At.x c.loop-position.left.now _ (omega arith) c.position-item.is w.in-At.is
+            (rw (c.loop-position.invariant.scope, w.new-in-At.ensures) at w.in_ok-x-in-At.ensures.cell) (rw w.in-Ok.is at w.with_number.ensures) c.loop-position.invariant.rest);
+        scope = w.scope-is ∙ w.cell.ensures.same ∙ c.loop-position.invariant.scope;
+      }
+      | point_of-in-Kept+in-len1-up+in-Ok-with_coordinate w ↦ record {
+        rest = rw (w.q-is, w.left-is) (kept_next (g.A.Arrays.members c.args.row.now) c.args.scope.now c.args.positions.now c.loop-position.position-index c.position-item.result
+            (point_seen c.loop-position.q)
+            (point_seen w.in-Ok-with_coordinate.more) _ c.loop-position.left.now _ (omega arith) c.position-item.is w.in-Kept.is w.in-len1-up.len_at_least
+            (get_first c.loop-position.left.now (pos 0) _ w.in-len1-up.len_at_least)
+            (rw w.in-Ok-with_coordinate.is at w.with_coordinate.ensures) c.loop-position.invariant.rest);
+        scope = w.scope-is ∙ c.loop-position.invariant.scope;
+      }
+    ]

@@ -12,7 +12,7 @@ abbrev pub invariant-composite-loop-part : goal.invariant-composite-loop-part
 invariant-composite-loop-part g l =
     record {
       rest : composed_of (each_cell (map cells_of_node l.parts) (g.A.Arrays.members l.row) l.fn.scope l.p.items)
-      ≡ whole_with l.whole (each_cell (map cells_of_node (drop l.part-index l.parts)) (g.A.Arrays.members l.row) l.fn.scope l.p.items);
+          ≡ whole_with l.whole (each_cell (map cells_of_node (drop l.part-index l.parts)) (g.A.Arrays.members l.row) l.fn.scope l.p.items);
       scope : l.scope ≡ l.fn.scope;
     }
 
@@ -40,7 +40,7 @@ abbrev pub invariant-joined-loop-part : goal.invariant-joined-loop-part
 invariant-joined-loop-part g l =
     record {
       rest : joined_at (map part_cells l.parts) (g.A.Arrays.members l.row) l.fn.scope l.p.items
-      ≡ joined_at (map part_cells (drop l.part-index l.parts)) (g.A.Arrays.members l.row) l.fn.scope l.p.items;
+          ≡ joined_at (map part_cells (drop l.part-index l.parts)) (g.A.Arrays.members l.row) l.fn.scope l.p.items;
       scope : l.scope ≡ l.fn.scope;
     }
 
@@ -48,6 +48,6 @@ abbrev pub invariant-point_of-loop-position : goal.invariant-point_of-loop-posit
 invariant-point_of-loop-position g l =
     record {
       rest : positions_by (map position_cells l.positions) (g.A.Arrays.members l.row) l.fn.scope l.p.items
-      ≡ point_with (point_seen l.q) (positions_by (map position_cells (drop l.position-index l.positions)) (g.A.Arrays.members l.row) l.fn.scope l.left);
+          ≡ point_with (point_seen l.q) (positions_by (map position_cells (drop l.position-index l.positions)) (g.A.Arrays.members l.row) l.fn.scope l.left);
       scope : l.scope ≡ l.fn.scope;
     }
