@@ -1,0 +1,5 @@
+pub mod ChangesFor
+pub mod Replacements
+pub mod Sound
+pub mod Writes
+pub mod Written
