@@ -12,5 +12,6 @@ mod walk;
 
 pub use laws::what_the_check_gives_is_well_typed;
 pub use ras_catalog::CheckError;
+pub use ras_shape::{Form, ShapeError, shape};
 pub use scope::{Place, Scope};
 pub use statement::check;

@@ -1,5 +1,5 @@
 -- Cuts and boxes, as the code tests them.
-use Rattle.std.proofs.Common.{◌≡◌, ℕ, ℤ, FitsSigned, Some, List, [], ◌∷◌, map, Result, Ok, Err, Bool, true, false, refl, sym, ap, ◌∙◌, All, rules, arith}
+use Rattle.std.proofs.Common.{◌≡◌, ℤ, FitsSigned, Some, List, [], ◌∷◌, map, Result, Ok, Err, Bool, true, false, refl, ap, ◌∙◌, All, arith}
 use Rattle.std.specs.Prelude.{◌+ℤ◌, ◌-ℤ◌, ◌||◌, ◌&&◌, not, if◌then◌else◌}
 use Rattle.std.specs.List.{list_any, zip}
 use Rattle.std.specs.Int.{w64}

@@ -1,8 +1,6 @@
 -- From what answers the parts' calls gave to what the definitions say of the whole.
-use Rattle.std.proofs.Common.{◌≡◌, Result, Ok, Err, refl, sym, subst, ap}
+use Rattle.std.proofs.Common.{◌≡◌, Result, Ok, Err, refl}
 use Rattle.ras_cells.specs.Outcomes.{◌>>=◌}
-use Rattle.ras_syntax.specs.declared.span.Span.{Span}
-use Rattle.ras_syntax.specs.declared.faults.ShapeFault.{ShapeFault}
 use Rattle.spec_expressions.specs.Shape.{ShapeMisfit}
 use Rattle.ras_shape.specs.declared.form.ShapeError.{ShapeError}
 use Rattle.ras_shape.specs.declared.form.ShapeError.TheVariants.{Fault, Memory}

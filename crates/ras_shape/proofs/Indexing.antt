@@ -1,5 +1,5 @@
 -- What the forms that are written as an index or a part are, by what their operands are.
-use Rattle.std.proofs.Common.{◌≡◌, ℕ, ℤ, List, [], ◌∷◌, map, Result, Ok, Err, Option, Some, None, Bool, true, false, refl, sym, ap, subst, Vec, Global, ◌∙◌, length, ◌≢◌}
+use Rattle.std.proofs.Common.{◌≡◌, ℤ, List, [], ◌∷◌, map, Result, Ok, Err, Option, Some, None, Bool, true, false, refl, sym, ap, Vec, Global, length, ◌≢◌}
 use Rattle.std.specs.Prelude.{pos, slice_get, if◌then◌else◌, codes}
 use Rattle.ras_cells.specs.declared.cell.CellFault.TheVariants.{Overflow}
 use Rattle.ras_cells.specs.Outcomes.{◌>>=◌}
@@ -15,8 +15,10 @@ use Rattle.ras_syntax.specs.declared.typed.TypedAxis.{TypedAxis, map-TypedAxis, 
 use Rattle.ras_syntax.specs.declared.typed.TypedAxis.TheOpen.{TypedAxis-F}
 use Rattle.spec_expressions.specs.Check.{tree_of_axes}
 use Rattle.ras_shape.specs.Trees.{axis_seen, domain_looked_at}
-use Rattle.spec_expressions.specs.Tree.{Domain, tree_of, axis_tree_step, domain_tree_step, form_tree_step, expr_tree_step, NameOf, Tree, Form, Axes, Side, lower, upper, node, variable, number, domain_of, interval_of, bound_of, component, index, at_point, coordinate, no_axes, position, trim, index_form, part_form, bound_named, is_same_name}
-use Rattle.spec_expressions.specs.Shape.{Box, Shape, scalar, box, box_of, Cut, ShapeMisfit, shape_of, form_shape, cuts_of, cut_shape, is_static_form, static_form, side_of, side_of_shape, interval_at, interval_list, Bound}
+use Rattle.spec_expressions.specs.Tree.{Domain, tree_of, axis_tree_step, domain_tree_step, form_tree_step, expr_tree_step, Tree, Form, Axes, Side, lower, upper, node, variable, number}
+use Rattle.spec_expressions.specs.Tree.{domain_of, interval_of, bound_of, component, no_axes, position, index_form, part_form, is_same_name}
+use Rattle.spec_expressions.specs.Shape.{Box, Shape, scalar, box, box_of, Cut, ShapeMisfit, shape_of, form_shape, cuts_of, cut_shape, is_static_form, static_form, side_of, interval_at}
+use Rattle.spec_expressions.specs.Shape.{interval_list}
 use Rattle.ras_shape.specs.declared.form.Form.{Form as Found}
 use Rattle.ras_shape.specs.declared.form.ShapeError.{ShapeError}
 use Rattle.ras_shape.specs.declared.look.Look.{Look}
@@ -24,12 +26,12 @@ use Rattle.ras_shape.specs.declared.cuts.Cut.{Cut as CutFound}
 use Rattle.ras_shape.specs.declared.ways.Head.TheVariants as heads
 use Rattle.ras_shape.specs.declared.ways.Way.{Way}
 use Rattle.ras_shape.specs.declared.ways.Way.TheVariants.{Cell, Interval, Cells}
-use Rattle.ras_shape.specs.declared.ways.PartWay.TheVariants.{Component, Lower, Upper}
+use Rattle.ras_shape.specs.declared.ways.PartWay.TheVariants.{Lower, Upper}
 use Rattle.ras_shape.specs.Cuts.{cut_found}
 use Rattle.ras_shape.specs.Gives.{shape_of_form, StopsAs, GivesAs, GivesShape, FollowsAsShape, shape_seen}
 use Rattle.ras_shape.specs.Looks.{IsLook, Sees, plain_look, form_seen}
 use Rattle.ras_shape.specs.Joins.{cuts_seen, index_from}
-use Rattle.ras_shape.specs.Ways.{head_of_form, head_of_tree, way_between, has_one_position, index_way_of, is_axis_form, is_axis_of_domain, is_axis_way, part_way_of, part_look, bound_look}
+use Rattle.ras_shape.specs.Ways.{head_of_tree, way_between, has_one_position, index_way_of, is_axis_of_domain, is_axis_way, part_way_of, part_look, bound_look}
 use Rattle.ras_shape.proofs.Follow.{first_stop, gives_step, stops_bind, stops_first}
 use Rattle.ras_shape.proofs.Looking.{sees_form, sees_plain, scalar-gives}
 
@@ -118,7 +120,8 @@ way-gives domains span e axes Cells (Err error) cuts got s c from =
     first_stop shape_of_form (way_shape domains span e axes Cells) error got
     (stops_bind (shape_of domains e) (λ x. cuts_of domains axes (box_of x) >>= λ all. cut_shape span (box_of x) all) error s) from
 
-pub sees_index : (domains : List Box) (span : Span) (kind : Kind) (e : Tree) (axes : Axes) (r : Result Found ShapeError) (cuts : Result (Vec CutFound Global) ShapeError) (got : Result Found ShapeError)
+pub sees_index : (domains : List Box) (span : Span) (kind : Kind) (e : Tree) (axes : Axes) (r : Result Found ShapeError) (cuts : Result (Vec CutFound Global) ShapeError)
+    (got : Result Found ShapeError)
     → GivesShape (shape_of domains e) r → ((form : Found) → r ≡ Ok form → GivesCuts (cuts_of domains axes (box_of (shape_of_form form))) cuts)
     → FollowsAsShape (index_from (index_way_of e axes) span (shape_seen r) (cuts_seen cuts)) got → Sees domains (node span kind (index_form e axes)) (plain_look got)
 sees_index domains span kind e axes r cuts got s c from =

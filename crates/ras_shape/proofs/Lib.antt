@@ -1,6 +1,8 @@
 pub mod Arms
+pub mod AxesSeen
 pub mod Bounds
 pub mod Commons
+pub mod DomainsSeen
 pub mod Follow
 pub mod IndexTurns
 pub mod Indexing

@@ -1,5 +1,5 @@
 -- What is known of an expression, from what is known of its parts, form by form.
-use Rattle.std.proofs.Common.{◌≡◌, ℕ, ℤ, List, [], ◌∷◌, ◌++◌, map, Result, Ok, Err, Option, Some, None, Bool, true, false, refl, sym, ap, subst, Vec, Global, ◌∙◌}
+use Rattle.std.proofs.Common.{◌≡◌, ℕ, ℤ, List, [], ◌∷◌, ◌++◌, map, Result, Ok, Err, false, refl, sym, ap, subst, Vec, Global, ◌∙◌}
 use Rattle.std.specs.Prelude.{◌&&◌, unsigned_abs, not}
 use Rattle.ras_cells.specs.declared.cell.CellFault.TheVariants.{Overflow}
 use Rattle.ras_cells.specs.declared.numbers.Op1.{Op1}
@@ -12,21 +12,21 @@ use Rattle.ras_cells.specs.Outcomes.{◌>>=◌}
 use Rattle.ras_domain.specs.Boxes.{lies_in}
 use Rattle.ras_syntax.specs.declared.span.Span.{Span}
 use Rattle.ras_syntax.specs.declared.expr.FoldOp.{FoldOp}
-use Rattle.ras_syntax.specs.declared.expr.CellsFold.{CellsFold}
 use Rattle.ras_syntax.specs.declared.typed.Kind.{Kind}
 use Rattle.ras_syntax.specs.declared.faults.ShapeFault.TheVariants.{Outside}
-use Rattle.spec_expressions.specs.Tree.{NameOf, Tree, Form, Trees, Pairs, Axes, Domain, Condition, Side, node, number, unary, cast, binary, index, at_point, component, choice, composite, marray, condense, folded, shift, extend, concat, domain_of, interval_of, bound_of}
-use Rattle.spec_expressions.specs.Shape.{Written as WrittenBounds, Box, Shape, scalar, array, box, box_of, Bound, Cut, ShapeMisfit, shape_of, form_shape, shapes_of, pair_shapes, condition_shape, cuts_of, written_of, written_box, offsets_of, is_static, is_static_form, static_of, static_form, side_of, side_of_shape, interval_at, interval_list, common_shape, sized_shape, of_size, fault_where, cut_shape, moved_box, values_of, concat_shape, width_of_kind}
+use Rattle.spec_expressions.specs.Tree.{NameOf, Tree, Form, Trees, Pairs, Domain, Condition, node, number, unary, binary, choice, composite, marray}
+use Rattle.spec_expressions.specs.Tree.{condense, shift, extend, concat, domain_of}
+use Rattle.spec_expressions.specs.Shape.{Written as WrittenBounds, Box, Shape, scalar, array, box, box_of, Bound, ShapeMisfit, shape_of, form_shape, shapes_of, pair_shapes, condition_shape}
+use Rattle.spec_expressions.specs.Shape.{written_of, written_box, offsets_of, is_static, is_static_form, static_form}
+use Rattle.spec_expressions.specs.Shape.{common_shape, sized_shape, of_size, fault_where, moved_box, values_of, concat_shape, width_of_kind}
 use Rattle.ras_shape.specs.declared.form.Form.{Form as Found}
 use Rattle.ras_shape.specs.declared.form.ShapeError.{ShapeError}
-use Rattle.ras_shape.specs.declared.form.ShapeError.TheVariants.{Fault, Memory}
 use Rattle.ras_shape.specs.declared.look.Look.{Look}
-use Rattle.ras_shape.specs.declared.cuts.Cut.{Cut as CutFound}
 use Rattle.ras_shape.specs.declared.domains.Written.{Written}
-use Rattle.ras_shape.specs.Cuts.{cut_found}
-use Rattle.ras_shape.specs.Gives.{shape_of_form, GivesAs, GivesShape, FollowsFrom, FollowsAsShape, StopsAs, shape_seen, fault_told, viewed}
-use Rattle.ras_shape.specs.Looks.{IsLook, Sees, IsBinaryLook, plain_look, form_seen, is_minus, is_sum_or_product, is_wide_atom, unary_look, one_value, both_values, number_look}
-use Rattle.ras_shape.specs.Joins.{SeesDomain, box_written, binary_from, build_from, case_from, concat_from, condense_from, cuts_seen, domain_from, extend_from, index_from, marray_from, offsets_seen, scalar_from, shapes_seen, shift_from, sized_from}
+use Rattle.ras_shape.specs.Gives.{shape_of_form, GivesAs, GivesShape, FollowsAsShape, shape_seen, fault_told}
+use Rattle.ras_shape.specs.Looks.{Sees, IsBinaryLook, plain_look, form_seen, is_minus, is_sum_or_product, unary_look, one_value, number_look}
+use Rattle.ras_shape.specs.Joins.{SeesDomain, box_written, binary_from, build_from, case_from, concat_from, condense_from, domain_from, extend_from, marray_from, offsets_seen}
+use Rattle.ras_shape.specs.Joins.{scalar_from, shapes_seen, shift_from, sized_from}
 use Rattle.ras_shape.proofs.Follow.{stops_bind, first_stop, gives_told, told_bind, gives_bind, gives_step}
 
 -- the form of a part that is seen
@@ -163,7 +163,8 @@ concat-gives domains span kind es along parts got s from =
     gives_step (λ forms. map shape_of_form forms.items) shape_of_form (shapes_of domains es) parts
     (λ xs. concat_shape span (width_of_kind kind) (unsigned_abs along) (map box_of xs)) got s from
 
-pub shift-gives : (domains : List Box) (span : Span) (kind : Kind) (e : Tree) (offsets : Trees) (r : Result Found ShapeError) (values : Result (Vec Bound Global) ShapeError) (got : Result Found ShapeError)
+pub shift-gives : (domains : List Box) (span : Span) (kind : Kind) (e : Tree) (offsets : Trees) (r : Result Found ShapeError) (values : Result (Vec Bound Global) ShapeError)
+    (got : Result Found ShapeError)
     → GivesShape (shape_of domains e) r → GivesAs (λ zs. zs.items) (offsets_of domains offsets) values
     → FollowsAsShape (shift_from span (shape_seen r) (offsets_seen values)) got → GivesShape (form_shape domains span kind (shift e offsets)) got
 shift-gives domains span kind e offsets r values got s t from =
@@ -174,7 +175,8 @@ shift-gives domains span kind e offsets r values got s t from =
 -- ---- domains
 
 -- a step that takes a domain
-domain_bind : (domains : List Box) (domain : Domain) (d : Result Written ShapeError) (k : WrittenBounds → Result Shape ShapeMisfit) (h : Written → Result Shape ShapeError) (got : Result Found ShapeError)
+domain_bind : (domains : List Box) (domain : Domain) (d : Result Written ShapeError) (k : WrittenBounds → Result Shape ShapeMisfit) (h : Written → Result Shape ShapeError)
+    (got : Result Found ShapeError)
     → SeesDomain domains domain d → FollowsAsShape (d >>= h) got
     → ((found : Written) (written : WrittenBounds) → ((span : Span) → written_box span written ≡ box_written span found) → FollowsAsShape (h found) got → GivesShape (k written) got)
     → GivesShape (written_of domains domain >>= k) got
@@ -206,7 +208,8 @@ condensed-told : (span : Span) (axes : Result Box ShapeMisfit)
 condensed-told span (Ok axes) = told_bind (of_size span 1 axes) (λ all. Ok scalar)
 condensed-told span (Err misfit) = refl
 
-pub condense-gives : (domains : List Box) (span : Span) (kind : Kind) (op : FoldOp) (x : NameOf) (domain : Domain) (condition : Condition) (e : Tree) (d : Result Written ShapeError) (c r got : Result Found ShapeError)
+pub condense-gives : (domains : List Box) (span : Span) (kind : Kind) (op : FoldOp) (x : NameOf) (domain : Domain) (condition : Condition) (e : Tree) (d : Result Written ShapeError)
+    (c r got : Result Found ShapeError)
     → SeesDomain domains domain d → GivesShape (condition_shape domains condition) c → GivesShape (shape_of domains e) r
     → FollowsAsShape (condense_from span d (shape_seen c) (shape_seen r)) got → GivesShape (form_shape domains span kind (condense op x domain condition e)) got
 condense-gives domains span kind op x domain condition e d c r got sd sc s from =
@@ -241,10 +244,12 @@ pub extend-gives : (domains : List Box) (span : Span) (kind : Kind) (e : Tree) (
 extend-gives domains span kind e domain r d got s sd from =
     gives_bind shape_of_form shape_of_form (shape_of domains e) r
     (λ x. written_of domains domain >>= λ written. around_box span (width_of_kind kind) (box_of x) (written_box span written))
-    (λ x. d >>= λ written. fault_told (box_written span written) >>= λ these. fault_told (fault_where (not (lies_in (box_of x) these)) span Outside these) >>= λ around. fault_told (sized_shape span (width_of_kind kind) (array around)))
+    (λ x. d >>= λ written. fault_told (box_written span written) >>= λ these. fault_told (fault_where (not (lies_in (box_of x) these)) span Outside these) >>= λ around. fault_told
+    (sized_shape span (width_of_kind kind) (array around)))
     got s from
     (λ x more. domain_bind domains domain d (λ written. around_box span (width_of_kind kind) (box_of (shape_of_form x)) (written_box span written))
-    (λ written. fault_told (box_written span written) >>= λ these. fault_told (fault_where (not (lies_in (box_of (shape_of_form x)) these)) span Outside these) >>= λ around. fault_told (sized_shape span (width_of_kind kind) (array around)))
+    (λ written. fault_told (box_written span written) >>= λ these. fault_told (fault_where (not (lies_in (box_of (shape_of_form x)) these)) span Outside these) >>= λ around. fault_told
+    (sized_shape span (width_of_kind kind) (array around)))
     got sd more
     (λ found written boxes rest. rw (boxes span) (gives_told shape_of_form (around_box span (width_of_kind kind) (box_of (shape_of_form x)) (box_written span found)) got
     (subst (λ w. FollowsAsShape w got) (around-told span (width_of_kind kind) (box_of (shape_of_form x)) (box_written span found)) rest))))

@@ -3,12 +3,12 @@ use Rattle.std.proofs.Common.{◌≡◌, ℕ, ℤ, Option, Some, None, ◌+◌, 
 use Rattle.std.proofs.lemmas.List.{at_drop_more, at_drop_all, append-nil}
 use Rattle.ras_cells.specs.declared.cell.CellFault.{CellFault}
 use Rattle.ras_cells.specs.Outcomes.{◌>>=◌}
-use Rattle.ras_domain.specs.declared.region.Interval.{Interval}
 use Rattle.ras_syntax.specs.declared.typed.TypedExpr.{TypedExpr}
 use Rattle.ras_syntax.specs.declared.typed.TypedAxis.{TypedAxis}
 use Rattle.spec_expressions.specs.Tree.{tree_of}
 use Rattle.spec_expressions.specs.Check.{tree_of_axes}
-use Rattle.spec_expressions.specs.Shape.{Box, Shape, ShapeMisfit, Bound, Cut as CutOf, with_value, values_of, kept_axes, shape_of, static_of, shapes_of, pair_shapes, offsets_of, bounds_of, cut_of, cuts_of}
+use Rattle.spec_expressions.specs.Shape.{Box, Shape, ShapeMisfit, Bound, Cut as CutOf, with_value, values_of, kept_axes, shape_of, static_of, shapes_of, pair_shapes, offsets_of, bounds_of, cut_of}
+use Rattle.spec_expressions.specs.Shape.{cuts_of}
 use Rattle.ras_shape.specs.declared.form.ShapeError.{ShapeError}
 use Rattle.ras_shape.specs.declared.form.ShapeError.TheVariants.{Fault, Memory}
 use Rattle.ras_shape.specs.declared.cuts.Cut.{Cut}
@@ -63,7 +63,8 @@ loop_stop f done xs i d w error within is so_far =
     subst (λ r. StopsAs r error) (sym (at_drop_more (run_after f done) xs i d within) ∙ so_far) (run_stop f done (get_or xs i d) (drop (i + 1) xs) error is)
 
 -- at the end all is done
-pub loop_end : {X B : Type 0} (f : X → Result (List B) ShapeMisfit) (done : List B) (xs : List X) (i : ℕ) (w : Result (List B) ShapeMisfit) → length xs ≤ i → run_after f done (drop i xs) ≡ w → w ≡ Ok done
+pub loop_end : {X B : Type 0} (f : X → Result (List B) ShapeMisfit) (done : List B) (xs : List X) (i : ℕ) (w : Result (List B) ShapeMisfit) → length xs ≤ i → run_after f done (drop i xs) ≡ w
+    → w ≡ Ok done
 loop_end f done xs i w over so_far = sym so_far ∙ at_drop_all (run_after f done) xs i over ∙ ap (λ all. Ok all) (append-nil done)
 
 -- ---- the lists of expressions
@@ -133,7 +134,8 @@ pub run-bounds : (domains : List Box) (ps : List (TypedExpr × TypedExpr)) → r
 run-bounds domains [] = refl
 run-bounds domains (p ∷ ps) =
     steps (shape_of domains (tree_of p.0)) (shape_of domains (tree_of p.1)) (λ x y. cut_of (static_of domains (tree_of p.0), static_of domains (tree_of p.1)) ∷ []) (run (bound_item domains) ps)
-    ∙ ap (λ s. shape_of domains (tree_of p.0) >>= λ x. shape_of domains (tree_of p.1) >>= λ y. s >>= λ zs. Ok (cut_of (static_of domains (tree_of p.0), static_of domains (tree_of p.1)) ∷ zs)) (run-bounds domains ps)
+    ∙ ap (λ s. shape_of domains (tree_of p.0) >>= λ x. shape_of domains (tree_of p.1) >>= λ y. s >>= λ zs. Ok (cut_of (static_of domains (tree_of p.0), static_of domains (tree_of p.1)) ∷ zs))
+    (run-bounds domains ps)
     ∙ cuts_step (shape_of domains (tree_of p.0)) (shape_of domains (tree_of p.1)) (static_of domains (tree_of p.0)) (static_of domains (tree_of p.1)) (bounds_of domains (pairs_seen ps))
 
 -- ---- the cuts of an index

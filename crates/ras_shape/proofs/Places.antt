@@ -8,7 +8,8 @@ use Rattle.ras_syntax.specs.declared.span.Span.{Span}
 use Rattle.ras_syntax.specs.declared.faults.ShapeFault.TheVariants.{BoundOut, ExtentsDiffer}
 use Rattle.std.proofs.lemmas.List.{take_all}
 use Rattle.spec_expressions.specs.Fits.{IsSound}
-use Rattle.spec_expressions.specs.Shape.{Box, ShapeMisfit, array, concat_shape, extents_agree, box_of, has_extents_of, has_large_bound, joined_parts, moved_after, placed_after, placed_parts, sized_shape}
+use Rattle.spec_expressions.specs.Shape.{Box, ShapeMisfit, array, concat_shape, extents_agree, box_of, has_extents_of, has_large_bound, joined_parts, moved_after, placed_after, placed_parts}
+use Rattle.spec_expressions.specs.Shape.{sized_shape}
 use Rattle.ras_shape.specs.declared.form.Form.{Form}
 use Rattle.ras_shape.specs.Gives.{shape_of_form}
 use Rattle.ras_shape.proofs.Bounds.{no_large}
@@ -20,7 +21,8 @@ placed_from span n first before whole others =
     if list_any (list_any has_large_bound) (placed_after n first before others) then Err (span, BoundOut) else Ok (fold hull_of whole (placed_after n first before others))
 
 -- one more part at its place, or one that has none
-turn-cases : (span : Span) (large more : Bool) (moved next whole : Box) (others : List Box) → (if large then Err (span, BoundOut) else Ok moved) ≡ (let r : Result Box ShapeMisfit = Ok next in r) → (large ≡ false) × (moved ≡ next)
+turn-cases : (span : Span) (large more : Bool) (moved next whole : Box) (others : List Box) → (if large then Err (span, BoundOut) else Ok moved) ≡ (let r : Result Box ShapeMisfit = Ok next in r)
+    → (large ≡ false) × (moved ≡ next)
 turn-cases span true more moved next whole others is = absurd cc
 turn-cases span false more moved next whole others is = (refl, cc)
 
@@ -30,7 +32,8 @@ places_turn span n first before whole b next bs is =
     let one = turn-cases span (list_any has_large_bound (moved_after n first before b)) false (moved_after n first before b) next whole bs is in
     rw (one.0, one.1) refl
 
-stop-cases : (span : Span) (large more : Bool) (moved : Box) (r : Result Box ShapeMisfit) (m : ShapeMisfit) → (let c : Result Box ShapeMisfit = if large then Err (span, BoundOut) else Ok moved in c) ≡ Err m
+stop-cases : (span : Span) (large more : Bool) (moved : Box) (r : Result Box ShapeMisfit) (m : ShapeMisfit)
+    → (let c : Result Box ShapeMisfit = if large then Err (span, BoundOut) else Ok moved in c) ≡ Err m
     → (if large || more then Err (span, BoundOut) else r) ≡ Err m
 stop-cases span true more moved r m is = let same : (let p : ShapeMisfit = (span, BoundOut) in p) ≡ m = cc in ap (λ x. Err x) same
 stop-cases span false more moved r m is = absurd cc
@@ -38,7 +41,8 @@ stop-cases span false more moved r m is = absurd cc
 pub places_stop : (span : Span) (n : ℕ) (first before whole b : Box) (bs : List Box) (m : ShapeMisfit) → checked_box span (moved_after n first before b) ≡ Err m
     → placed_from span n first before whole (b ∷ bs) ≡ Err m
 places_stop span n first before whole b bs m is =
-    stop-cases span (list_any has_large_bound (moved_after n first before b)) (list_any (list_any has_large_bound) (placed_after n first (moved_after n first before b) bs)) (moved_after n first before b)
+    stop-cases span (list_any has_large_bound (moved_after n first before b)) (list_any (list_any has_large_bound) (placed_after n first (moved_after n first before b) bs))
+    (moved_after n first before b)
     (Ok (fold hull_of whole (placed_after n first before (b ∷ bs)))) m is
 
 -- the first part alone, and the other parts after it

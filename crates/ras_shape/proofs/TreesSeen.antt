@@ -1,5 +1,5 @@
 -- What the tree of an expression is, by its form.
-use Rattle.std.proofs.Common.{◌≡◌, ℕ, ℤ, List, Bool, Option, Some, None, refl, sym, ap, ◌∙◌, map}
+use Rattle.std.proofs.Common.{◌≡◌, ℕ, ℤ, List, Bool, Option, Some, None, sym, ap, ◌∙◌}
 use Rattle.std.specs.Prelude.{option_map}
 use Rattle.ras_cells.specs.declared.atom.Atom.{Atom}
 use Rattle.ras_cells.specs.declared.numbers.Op1.{Op1}
@@ -15,8 +15,9 @@ use Rattle.ras_syntax.specs.declared.typed.TypedExpr.{TypedExpr, out-TypedExpr, 
 use Rattle.ras_syntax.specs.declared.typed.TypedForm.{TypedForm, fold-TypedForm, fold-roll-TypedForm}
 use Rattle.ras_syntax.specs.declared.typed.TypedForm.TheVariants as typed
 use Rattle.spec_expressions.specs.Check.{tree_of_axes}
-use Rattle.spec_expressions.specs.Tree.{NameOf, Tree, Form, Axes, Domain, node, truth, number, iterator, variable, unary, cast, binary, choice, composite, marray, condense, folded, shift, extend, concat, domain_of, oid, index_form, part_form, condition_of, tree_of, axis_tree_step, domain_tree_step, form_tree_step, expr_tree_step}
-use Rattle.ras_shape.specs.Trees.{axis_seen, domain_looked_at, trees_seen, pairs_seen}
+use Rattle.spec_expressions.specs.Tree.{NameOf, Tree, Form, Axes, Domain, node, truth, number, iterator, variable, unary, cast, binary, choice, composite, marray, condense, folded, shift, extend}
+use Rattle.spec_expressions.specs.Tree.{concat, domain_of, oid, index_form, part_form, condition_of, tree_of, axis_tree_step, domain_tree_step, form_tree_step, expr_tree_step}
+use Rattle.ras_shape.specs.Trees.{domain_looked_at, trees_seen, pairs_seen}
 use Rattle.ras_shape.specs.declared.ways.Head.TheVariants.{Other}
 use Rattle.ras_shape.specs.declared.ways.Way.{Way}
 use Rattle.ras_shape.specs.Ways.{head_of_tree, index_way_of, is_axis_of_domain, is_axis_way}
@@ -99,13 +100,15 @@ node_Build x es is =
     (ap form_within (sym (typed.rolls-Build es))
     ∙ fold-roll-TypedForm (Axes → Axes) Domain Form Tree axis_tree_step domain_tree_step form_tree_step expr_tree_step (TypedForm-F.Build es))
 
-pub node_Marray : (x : TypedExpr) (v : Spanned) (domain : TypedDomain) (e : TypedExpr) → (out-TypedExpr x).form ≡ typed.Marray v domain e → NodeOf x (marray v.name (domain_looked_at domain) (tree_of e))
+pub node_Marray : (x : TypedExpr) (v : Spanned) (domain : TypedDomain) (e : TypedExpr) → (out-TypedExpr x).form ≡ typed.Marray v domain e
+    → NodeOf x (marray v.name (domain_looked_at domain) (tree_of e))
 node_Marray x v domain e is =
     node_is x (typed.Marray v domain e) (marray v.name (domain_looked_at domain) (tree_of e)) is
     (ap form_within (sym (typed.rolls-Marray v domain e))
     ∙ fold-roll-TypedForm (Axes → Axes) Domain Form Tree axis_tree_step domain_tree_step form_tree_step expr_tree_step (TypedForm-F.Marray v domain e))
 
-pub node_Condense : (x : TypedExpr) (op : FoldOp) (v : Spanned) (domain : TypedDomain) (test : Option TypedExpr) (e : TypedExpr) → (out-TypedExpr x).form ≡ typed.Condense op v domain test e → NodeOf x (condense op v.name (domain_looked_at domain) (condition_of (option_map tree_of test)) (tree_of e))
+pub node_Condense : (x : TypedExpr) (op : FoldOp) (v : Spanned) (domain : TypedDomain) (test : Option TypedExpr) (e : TypedExpr) → (out-TypedExpr x).form ≡ typed.Condense op v domain test e
+    → NodeOf x (condense op v.name (domain_looked_at domain) (condition_of (option_map tree_of test)) (tree_of e))
 node_Condense x op v domain None e is =
     node_is x (typed.Condense op v domain None e) (condense op v.name (domain_looked_at domain) (condition_of (option_map tree_of None)) (tree_of e)) is
     (ap form_within (sym (typed.rolls-Condense op v domain None e))
@@ -150,8 +153,6 @@ node_Oid x a is =
     node_is x (typed.Oid a) (oid a.name) is
     (ap form_within (sym (typed.rolls-Oid a))
     ∙ fold-roll-TypedForm (Axes → Axes) Domain Form Tree axis_tree_step domain_tree_step form_tree_step expr_tree_step (TypedForm-F.Oid a))
-
-pub ruleset nodes = (node_Bool, node_Number, node_Iterator, node_Variable, node_Unary, node_Cast, node_Binary, node_Index, node_Part, node_Case, node_Build, node_Marray, node_Condense, node_Cells, node_Shift, node_Extend, node_Concat, node_Sdom, node_Oid)
 
 -- ---- an index
 

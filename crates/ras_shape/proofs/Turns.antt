@@ -1,5 +1,5 @@
 -- The turns of the walk's loops, in the words of its calls.
-use Rattle.std.proofs.Common.{◌≡◌, ℕ, ◌+◌, ◌<◌, ◌≤◌, List, [], ◌∷◌, ◌++◌, length, map, drop, get_or, Result, Ok, Err, Option, Some, None, refl, sym, ap, subst, ◌∙◌}
+use Rattle.std.proofs.Common.{◌≡◌, ℕ, ◌+◌, ◌<◌, ◌≤◌, List, [], ◌∷◌, ◌++◌, length, map, drop, get_or, Result, Ok, refl, ◌∙◌}
 use Rattle.std.proofs.lemmas.List.{map-append}
 use Rattle.ras_cells.specs.Outcomes.{◌>>=◌}
 use Rattle.ras_syntax.specs.declared.typed.TypedExpr.{TypedExpr}
@@ -7,15 +7,14 @@ use Rattle.spec_expressions.specs.Tree.{tree_of}
 use Rattle.spec_expressions.specs.Shape.{Box, Shape, ShapeMisfit, Bound, Cut as CutOf, cut_of, trim_cut, shape_of, static_of, shapes_of, pair_shapes, offsets_of}
 use Rattle.ras_shape.specs.declared.form.Form.{Form}
 use Rattle.ras_shape.specs.declared.form.ShapeError.{ShapeError}
-use Rattle.ras_shape.specs.declared.form.ShapeError.TheVariants.{Fault, Memory}
 use Rattle.ras_shape.specs.declared.look.Look.{Look}
 use Rattle.ras_shape.specs.declared.cuts.Cut.{Cut}
 use Rattle.ras_shape.specs.Cuts.{cut_found}
 use Rattle.ras_shape.specs.Gives.{StopsAs, shape_of_form}
-use Rattle.ras_shape.specs.Looks.{IsLook, Sees}
+use Rattle.ras_shape.specs.Looks.{IsLook}
 use Rattle.ras_shape.specs.Trees.{bound_cuts, pairs_seen, trees_seen}
 use Rattle.ras_shape.proofs.Follow.{stops_bind}
-use Rattle.ras_shape.proofs.Loops.{run, run_after, run_none, loop_turn, loop_stop, loop_end, shape_item, offset_item, pair_item, bound_item, run-shapes, run-offsets, run-pairs, run-bounds}
+use Rattle.ras_shape.proofs.Loops.{run_after, run_none, loop_turn, loop_stop, loop_end, shape_item, offset_item, pair_item, bound_item, run-shapes, run-offsets, run-pairs, run-bounds}
 
 -- ---- shapes of a list
 
@@ -71,7 +70,8 @@ pub ruleset offsets = (offsets_begin, offsets_turn, offsets_stop, offsets_end)
 
 -- ---- shapes of pairs
 
-second-stops : (domains : List Box) (a b : TypedExpr) (B : Type 0) (look : Look) (k : Shape → Shape → B) (error : ShapeError) → IsLook domains (tree_of a) look → StopsAs (shape_of domains (tree_of b)) error
+second-stops : (domains : List Box) (a b : TypedExpr) (B : Type 0) (look : Look) (k : Shape → Shape → B) (error : ShapeError) → IsLook domains (tree_of a) look
+    → StopsAs (shape_of domains (tree_of b)) error
     → StopsAs (shape_of domains (tree_of a) >>= λ x. shape_of domains (tree_of b) >>= λ y. Ok (k x y)) error
 second-stops domains a b B look k error is stop = rw is.shape (stops_bind (shape_of domains (tree_of b)) (λ y. Ok (k (shape_of_form look.form) y)) error stop)
 
@@ -122,7 +122,8 @@ bounds_first_stop domains ps i d done error w within stop so_far =
     loop_stop (bound_item domains) (map cut_found done) ps i d w error within
     (stops_bind (shape_of domains (tree_of p.0)) (λ x. shape_of domains (tree_of p.1) >>= λ y. Ok (cut_of (static_of domains (tree_of p.0), static_of domains (tree_of p.1)) ∷ [])) error stop) so_far
 
-pub bounds_second_stop : (domains : List Box) (ps : List (TypedExpr × TypedExpr)) (i : ℕ) (d : TypedExpr × TypedExpr) (done : List Cut) (a : Look) (error : ShapeError) (w : Result (List CutOf) ShapeMisfit)
+pub bounds_second_stop : (domains : List Box) (ps : List (TypedExpr × TypedExpr)) (i : ℕ) (d : TypedExpr × TypedExpr) (done : List Cut) (a : Look) (error : ShapeError)
+    (w : Result (List CutOf) ShapeMisfit)
     → i < length ps → IsLook domains (tree_of (get_or ps i d).0) a → StopsAs (shape_of domains (tree_of (get_or ps i d).1)) error
     → run_after (bound_item domains) (map cut_found done) (drop i ps) ≡ w → StopsAs w error
 bounds_second_stop domains ps i d done a error w within first stop so_far =
@@ -139,7 +140,8 @@ pairs_first_stop domains ps i d done error w within stop so_far =
     loop_stop (pair_item domains) (map shape_of_form done) ps i d w error within
     (stops_bind (shape_of domains (tree_of p.0)) (λ x. shape_of domains (tree_of p.1) >>= λ y. Ok (x ∷ y ∷ [])) error stop) so_far
 
-pub pairs_second_stop : (domains : List Box) (ps : List (TypedExpr × TypedExpr)) (i : ℕ) (d : TypedExpr × TypedExpr) (done : List Form) (a : Look) (error : ShapeError) (w : Result (List Shape) ShapeMisfit)
+pub pairs_second_stop : (domains : List Box) (ps : List (TypedExpr × TypedExpr)) (i : ℕ) (d : TypedExpr × TypedExpr) (done : List Form) (a : Look) (error : ShapeError)
+    (w : Result (List Shape) ShapeMisfit)
     → i < length ps → IsLook domains (tree_of (get_or ps i d).0) a → StopsAs (shape_of domains (tree_of (get_or ps i d).1)) error
     → run_after (pair_item domains) (map shape_of_form done) (drop i ps) ≡ w → StopsAs w error
 pairs_second_stop domains ps i d done a error w within first stop so_far =

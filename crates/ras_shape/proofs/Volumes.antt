@@ -1,9 +1,7 @@
 -- How large boxes are, in the numbers that the code has.
-use Rattle.std.proofs.Common.{◌≡◌, ℕ, ◌*◌, ◌<◌, ◌≤◌, List, length, Bool, true, false, Ok, Err, refl, sym, arith}
+use Rattle.std.proofs.Common.{◌≡◌, ℕ, ◌*◌, ◌<◌, ◌≤◌, length, Bool, true, false, Ok, Err, refl, arith}
 use Rattle.std.specs.Prelude.{◌||◌, nat_lt}
-use Rattle.std.proofs.lemmas.Bool.{lt-ltb}
 use Rattle.std.proofs.lemmas.Bool.Decides.{nat_tests}
-use Rattle.ras_domain.specs.declared.region.Interval.{Interval}
 use Rattle.ras_domain.specs.declared.TheConstants.{MAX_POINTS}
 use Rattle.ras_domain.specs.Region.{IsRegion, points_of, volume_of}
 use Rattle.ras_domain.proofs.BoxTests.{volume_of-points}

@@ -1,6 +1,7 @@
 -- How what the code answers stands for what the definitions say. Want of memory stands for nothing: it may come at any call.
-use Rattle.std.specs.Prelude.{◌≡◌, List, Result, Ok, Err}
-use Rattle.ras_domain.specs.declared.region.Interval.{Interval}
+use Rattle.std.specs.Prelude.{◌≡◌, ◌<◌, ◌≤◌, length, All, Result, Ok, Err}
+use Rattle.ras_domain.specs.declared.TheConstants.{MAX_AXES}
+use Rattle.ras_domain.specs.Region.{HasSmallBounds, IsOrdered}
 use Rattle.spec_expressions.specs.Shape.{Box, Shape, scalar, array, box, ShapeMisfit}
 use Rattle.ras_shape.specs.declared.form.Form.{Form}
 use Rattle.ras_shape.specs.declared.form.Form.TheVariants as forms
@@ -54,3 +55,12 @@ FollowsAsShape = FollowsFrom shape_of_form
 
 abbrev pub shape_seen : Result Form ShapeError → Result Shape ShapeError
 shape_seen = viewed shape_of_form
+
+-- ---- boxes that are a region's
+
+-- all that a region has, but for the number of its points
+pub record HasRegionAxes (axes : Box) : Type 0 where
+  pub some_axes : 0 < length axes
+  pub few_axes : length axes ≤ MAX_AXES
+  pub small_bounds : All HasSmallBounds axes
+  pub ordered : All IsOrdered axes

@@ -1,11 +1,12 @@
 -- Shapes made of parts, as the code has them.
-use Rattle.std.specs.Prelude.{◌≡◌, Vec, ℕ, ℤ, unsigned_abs, Bool, true, false, not, ◌&&◌, if◌then◌else◌, List, [], ◌∷◌, ◌++◌, map, Option, Some, None, Result, Ok, Err}
+use Rattle.std.specs.Prelude.{◌≡◌, Vec, ℕ, not, List, [], ◌∷◌, ◌++◌, map, Result, Ok, Err}
 use Rattle.std.specs.Global.{Global}
 use Rattle.ras_cells.specs.Outcomes.{◌>>=◌}
 use Rattle.ras_domain.specs.Boxes.{lies_in}
 use Rattle.ras_syntax.specs.declared.span.Span.{Span}
 use Rattle.ras_syntax.specs.declared.faults.ShapeFault.TheVariants.{Outside}
-use Rattle.spec_expressions.specs.Shape.{Written as WrittenBounds, written_of, written_box, Box, Shape, scalar, array, box, box_of, Bound, Cut, ShapeMisfit, fault_where, of_size, common_shape, sized_shape, cut_shape, values_of, moved_box, concat_shape, interval_at, interval_list}
+use Rattle.spec_expressions.specs.Shape.{Written as WrittenBounds, written_of, written_box, Box, Shape, scalar, array, box, box_of, Bound, Cut, ShapeMisfit, fault_where, of_size, common_shape}
+use Rattle.spec_expressions.specs.Shape.{sized_shape, cut_shape, values_of, moved_box, concat_shape, interval_at, interval_list}
 use Rattle.spec_expressions.specs.Tree.{Domain}
 use Rattle.ras_shape.specs.declared.form.Form.{Form}
 use Rattle.ras_shape.specs.declared.form.ShapeError.{ShapeError}

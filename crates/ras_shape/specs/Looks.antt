@@ -1,8 +1,7 @@
 -- What the walk knows of an expression.
-use Rattle.std.specs.Prelude.{◌≡◌, ℤ, Bool, true, false, ◌&&◌, List, Option, Some, None, Result, Ok, Err}
+use Rattle.std.specs.Prelude.{◌≡◌, ℤ, Bool, true, false, ◌&&◌, List, Result, Ok, Err}
 use Rattle.ras_cells.specs.declared.atom.Atom.{Atom}
 use Rattle.ras_cells.specs.declared.atom.Atom.TheVariants as atoms
-use Rattle.ras_cells.specs.declared.cell.CellFault.{CellFault}
 use Rattle.ras_cells.specs.declared.cell.CellFault.TheVariants.{Overflow}
 use Rattle.ras_cells.specs.declared.numbers.Op1.{Op1}
 use Rattle.ras_cells.specs.declared.numbers.Op1.TheVariants as one
@@ -10,9 +9,8 @@ use Rattle.ras_cells.specs.declared.numbers.Op2.{Op2}
 use Rattle.ras_cells.specs.declared.numbers.Op2.TheVariants as two
 use Rattle.ras_cells.specs.Outcomes.{◌>>=◌}
 use Rattle.ras_cells.specs.Numbers.{of_number, of_numbers}
-use Rattle.ras_syntax.specs.declared.span.Span.{Span}
-use Rattle.spec_expressions.specs.Tree.{Tree, Side}
-use Rattle.spec_expressions.specs.Shape.{Box, box_of, interval_at, side_of, shape_of, is_static, static_of, Bound, common_shape}
+use Rattle.spec_expressions.specs.Tree.{Tree}
+use Rattle.spec_expressions.specs.Shape.{Box, shape_of, is_static, static_of, Bound}
 use Rattle.ras_shape.specs.declared.form.Form.{Form}
 use Rattle.ras_shape.specs.declared.form.Form.TheVariants as forms
 use Rattle.ras_shape.specs.declared.form.ShapeError.{ShapeError}

@@ -1,5 +1,5 @@
 -- The parts of a concat, moved to their places.
-use Rattle.std.specs.Prelude.{ℕ, ℤ, pos, ◌+ℤ◌, ◌-ℤ◌, Bool, ◌==◌, List, map, Option, Some, None, Result, Ok, Err, if◌then◌else◌}
+use Rattle.std.specs.Prelude.{ℕ, ℤ, ◌+ℤ◌, ◌-ℤ◌, Bool, ◌==◌, List, map, Result, Ok, Err, if◌then◌else◌}
 use Rattle.std.specs.List.{list_any, zip}
 use Rattle.ras_cells.specs.Outcomes.{◌>>=◌}
 use Rattle.ras_domain.specs.declared.region.Interval.{Interval}

@@ -1,9 +1,8 @@
 -- What an index and a part do, by their operands.
-use Rattle.std.specs.Prelude.{ℤ, Bool, true, false, if◌then◌else◌, codes, slice_get, Option, Some, None, Result, Ok, Err}
-use Rattle.ras_cells.specs.declared.cell.CellFault.TheVariants.{Overflow}
+use Rattle.std.specs.Prelude.{Bool, true, false, if◌then◌else◌, codes, slice_get, Result, Ok, Err}
 use Rattle.ras_syntax.specs.declared.expr.Part.{Part}
 use Rattle.ras_syntax.specs.declared.expr.Part.TheVariants as parts
-use Rattle.spec_expressions.specs.Tree.{Tree, Form, Axes, node, number, variable, domain_of, interval_of, no_axes, position, trim, is_same_name, lower, upper}
+use Rattle.spec_expressions.specs.Tree.{Tree, Form, Axes, node, number, variable, domain_of, interval_of, no_axes, position, is_same_name, lower, upper}
 use Rattle.spec_expressions.specs.Shape.{Bound, side_of, box_of}
 use Rattle.ras_shape.specs.declared.form.Form.TheVariants as forms
 use Rattle.ras_shape.specs.declared.form.ShapeError.{ShapeError}

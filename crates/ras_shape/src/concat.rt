@@ -5,8 +5,10 @@ ghost use Rattle.std.specs.List.{list_all, list_any, zip};
 ghost use Rattle.ras_domain.specs.Region.{extent_of};
 ghost use Rattle.ras_domain.specs.Boxes.{hull_of};
 ghost use Rattle.ras_shape.specs.Gives.{GivesAs, GivesShape};
-ghost use Rattle.ras_shape.specs.Moves.{agrees_with, is_as_long, interval_begun_at, box_begun_with, boxes_of_forms, checked_box, placed_box, placed_shape};
-ghost use Rattle.spec_expressions.specs.Shape.{Shape, ShapeMisfit, concat_shape, extents_agree, has_extents_of, has_large_bound, interval_after, moved_after, is_small as is_small_number};
+ghost use Rattle.ras_shape.specs.Moves.{agrees_with, is_as_long, interval_begun_at, box_begun_with, boxes_of_forms, checked_box};
+ghost use Rattle.ras_shape.specs.Moves.{placed_box, placed_shape};
+ghost use Rattle.spec_expressions.specs.Shape.{Shape, ShapeMisfit, concat_shape, extents_agree, has_extents_of, has_large_bound};
+ghost use Rattle.spec_expressions.specs.Shape.{interval_after, moved_after, is_small as is_small_number};
 
 use crate::form::{Form, ShapeError, fault_at};
 use crate::sizes::sized_region;
@@ -43,7 +45,8 @@ fn placed_form(
     parts: &[Form],
 ) -> Result<Form, ShapeError>
     requires { width ≤ MAX_COMPONENTS }
-    ensures { (wanted : Result Shape ShapeMisfit) → wanted ≡ placed_shape span width along (boxes_of_forms parts.now) → GivesShape wanted result }
+    ensures { (wanted : Result Shape ShapeMisfit)
+        → wanted ≡ placed_shape span width along (boxes_of_forms parts.now) → GivesShape wanted result }
 {
     let axes = joined(alloc, span, along, parts)?;
     Ok(Form::Array(sized_region(span, width, &axes)?))
@@ -166,7 +169,8 @@ fn push_moved(
     moved: &mut Vec<Interval>,
 ) -> Result<bool, AllocError>
     ensures small { IfOk result (λ small. list_any has_large_bound (moved_after along first.now before.now b.now) ≡ not small) }
-    ensures moved { IfOk result (λ small. small ≡ true → moved.new.items ≡ moved.old.items ++ moved_after along first.now before.now b.now) }
+    ensures moved { IfOk result (λ small. small ≡ true
+        → moved.new.items ≡ moved.old.items ++ moved_after along first.now before.now b.now) }
 {
     let [one, firsts @ ..] = first else {
         return Ok(true);

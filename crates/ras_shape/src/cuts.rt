@@ -2,7 +2,8 @@
 ghost use Rattle.std.specs.Prelude.{◌≡◌, Result, map, IfOk, Ok};
 ghost use Rattle.ras_shape.specs.Gives.{shape_of_form, GivesAs, GivesShape};
 ghost use Rattle.ras_shape.specs.Cuts.{any_broken, any_empty, any_outside, cut_found, literal_box};
-ghost use Rattle.spec_expressions.specs.Shape.{Shape, ShapeMisfit, array_or_scalar_shape, cut_shape, is_broken, is_empty_cut, is_outside, kept_axes, position_cut, trim_cut};
+ghost use Rattle.spec_expressions.specs.Shape.{Shape, ShapeMisfit, array_or_scalar_shape, cut_shape, is_broken, is_empty_cut, is_outside};
+ghost use Rattle.spec_expressions.specs.Shape.{kept_axes, position_cut, trim_cut};
 
 use crate::form::{Form, ShapeError, fault_at, region_of};
 use ras_cells::CellFault;
@@ -11,8 +12,8 @@ use ras_syntax::{ShapeFault, Span};
 use std::alloc::{AllocError, Global};
 
 /// What an index does to an axis.
-#[derive(Clone, Copy)]
-pub(crate) enum Cut {
+#[derive(Clone, Copy, Debug, PartialEq, Eq)]
+pub enum Cut {
     /// It takes this position.
     Fixed(i64),
     /// It takes a position that each cell has for itself.

@@ -1,5 +1,6 @@
 //! What an expression stands for, and why it stands for nothing.
-ghost use Rattle.std.specs.Prelude.{◌≡◌, Ok};
+ghost use Rattle.std.specs.Prelude.{◌≡◌, Ok, IsOk};
+ghost use Rattle.ras_domain.specs.Region.{IsRegion};
 ghost use Rattle.ras_shape.specs.Gives.{shape_of_form, GivesBox};
 ghost use Rattle.ras_shape.specs.declared.form.ShapeError.TheVariants.{Fault, Memory};
 ghost use Rattle.spec_expressions.specs.Shape.{box_of};
@@ -59,10 +60,11 @@ impl Form {
     }
 }
 
-/// The region of these intervals. Those of an expression that keeps the rules of the check are
-/// always a region's; for others the answer is the same as for want of memory.
+/// The region of these intervals. Where they are no region's, the answer is the same as for want of
+/// memory.
 pub(crate) fn region_of(axes: &[Interval]) -> Result<Region, ShapeError>
-    ensures { GivesBox (Ok axes.now) result }
+    ensures form { GivesBox (Ok axes.now) result }
+    ensures region { IsRegion axes.now → IsOk result }
 {
     match Region::new(axes) {
         Ok(region) => Ok(region),

@@ -3,7 +3,8 @@
 ghost use Rattle.std.specs.Prelude.{◌≡◌, ◌≤◌, ◌∷◌, [], Ok, unsigned_abs};
 ghost use Rattle.ras_shape.specs.Gives.{GivesShape, FollowsAsShape, shape_of_form, shape_seen};
 ghost use Rattle.ras_shape.specs.Looks.{form_seen, IsBinaryLook};
-ghost use Rattle.ras_shape.specs.Joins.{binary_from, build_from, case_from, concat_from, condense_from, domain_from, extend_from, index_from, marray_from, scalar_from, shift_from, offsets_seen, shapes_seen, cuts_seen};
+ghost use Rattle.ras_shape.specs.Joins.{binary_from, build_from, case_from, concat_from, condense_from, domain_from, extend_from};
+ghost use Rattle.ras_shape.specs.Joins.{index_from, marray_from, scalar_from, shift_from, offsets_seen, shapes_seen, cuts_seen};
 ghost use Rattle.spec_expressions.specs.Shape.{box, box_of, common_shape, interval_at, interval_list};
 
 use crate::common::{both_forms, common_form};
@@ -199,11 +200,11 @@ pub(crate) fn concat(
     alloc: Global,
     span: Span,
     width: u64,
-    along: i64,
+    along: &i64,
     parts: Result<Vec<Form>, ShapeError>,
 ) -> Result<Form, ShapeError>
     requires { width ≤ MAX_COMPONENTS }
-    ensures { FollowsAsShape (concat_from span width (unsigned_abs along) (shapes_seen parts)) result }
+    ensures { FollowsAsShape (concat_from span width (unsigned_abs along.now) (shapes_seen parts)) result }
 {
     let parts = parts?;
     concat_form(alloc, span, width, along.unsigned_abs(), &parts)

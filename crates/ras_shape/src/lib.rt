@@ -1,4 +1,4 @@
-//! The rules of shapes: what the shape of a form follows from, or its first shape fault.
+//! The shape of a checked expression over domains, or its first shape fault.
 #![tactic(auto)]
 
 pub mod common;
@@ -8,8 +8,12 @@ pub mod domains;
 pub mod form;
 pub mod joins;
 pub mod look;
+mod shapes;
 pub mod shift;
 pub mod sizes;
+mod walk;
 pub mod ways;
 
+pub use cuts::Cut;
 pub use form::{Form, ShapeError};
+pub use shapes::{index_cuts, shape};

@@ -1,6 +1,7 @@
 //! What the walk knows of an expression: its shape, and its value where it is static.
-ghost use Rattle.std.specs.Prelude.{◌≡◌};
-ghost use Rattle.ras_shape.specs.Looks.{plain_look, form_seen, is_wide_atom, is_minus, is_sum_or_product, number_look, unary_look, both_values, one_value};
+ghost use Rattle.std.specs.Prelude.{◌≡◌, Ok};
+ghost use Rattle.ras_shape.specs.Looks.{plain_look, form_seen, is_wide_atom, is_minus, is_sum_or_product, number_look, unary_look};
+ghost use Rattle.ras_shape.specs.Looks.{both_values, one_value};
 
 use crate::form::{Form, ShapeError};
 use ras_cells::{Atom, CellFault, Op1, Op2, apply1_to_number, apply2_to_numbers};
@@ -41,6 +42,13 @@ pub(crate) fn form_of(look: Result<Look, ShapeError>) -> Result<Form, ShapeError
         Ok(look) => Ok(look.form),
         Err(error) => Err(error),
     }
+}
+
+/// A value that is known.
+pub(crate) fn known(value: &i64) -> Static
+    ensures { result ≡ Ok value.now }
+{
+    Ok(*value)
 }
 
 /// A literal.

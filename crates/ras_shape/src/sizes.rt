@@ -1,6 +1,7 @@
 //! How large an array may be.
-ghost use Rattle.std.specs.Prelude.{◌≡◌, ◌≤◌};
-ghost use Rattle.ras_shape.specs.Gives.{shape_of_form, GivesBox, GivesShape};
+ghost use Rattle.std.specs.Prelude.{◌≡◌, ◌≢◌, ◌≤◌, IfErr};
+ghost use Rattle.ras_shape.specs.Gives.{shape_of_form, GivesBox, GivesShape, HasRegionAxes};
+ghost use Rattle.ras_shape.specs.declared.form.ShapeError.TheVariants.{Memory};
 ghost use Rattle.spec_expressions.specs.Shape.{of_size, sized_shape, width_of_kind};
 
 use crate::form::{Form, ShapeError, fault_at};
@@ -20,11 +21,13 @@ pub(crate) fn width_of(kind: &Kind) -> u64
 }
 
 /// The region of these intervals, where it has at most 2^24 points and, with so many numbers a cell,
-/// at most 2^24 stored numbers. Else the fault is [`ShapeFault::ArrayTooLarge`].
+/// at most 2^24 stored numbers. Else the fault is [`ShapeFault::ArrayTooLarge`]. Where no box with these
+/// axes is a region, however few its points, the answer is the same as for want of memory.
 #[tactic(auto, using(crate::proofs::Volumes::sizes))]
 pub(crate) fn sized_region(span: Span, width: u64, axes: &[Interval]) -> Result<Region, ShapeError>
     requires { width ≤ MAX_COMPONENTS }
-    ensures { GivesBox (of_size span width axes.now) result }
+    ensures size { GivesBox (of_size span width axes.now) result }
+    ensures region { HasRegionAxes axes.now → IfErr result (λ error. error ≢ Memory) }
 {
     match Region::new(axes) {
         Ok(region) => with_few_numbers(span, width, region),
@@ -37,7 +40,8 @@ pub(crate) fn sized_region(span: Span, width: u64, axes: &[Interval]) -> Result<
 #[tactic(auto, using(crate::proofs::Volumes::sizes))]
 fn with_few_numbers(span: Span, width: u64, region: Region) -> Result<Region, ShapeError>
     requires { width ≤ MAX_COMPONENTS }
-    ensures { GivesBox (of_size span width region) result }
+    ensures size { GivesBox (of_size span width region) result }
+    ensures fault { IfErr result (λ error. error ≢ Memory) }
 {
     if region.volume() * width > MAX_STORED_NUMBERS {
         return Err(fault_at(span, ShapeFault::ArrayTooLarge));

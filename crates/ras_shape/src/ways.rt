@@ -2,7 +2,8 @@
 //! or a part, and are neither.
 ghost use Rattle.std.specs.Prelude.{◌≡◌, ◌≢◌, ◌∷◌, [], false, length, slice_get, IfNone, IfSome, MatchOption};
 ghost use Rattle.ras_shape.specs.declared.ways.PartWay.TheVariants.{Lower, Upper};
-ghost use Rattle.ras_shape.specs.Ways.{has_one_position, way_between, head_of_tree, index_way_of, is_axis_of_domain, is_axis_way, part_way_of, bound_look, part_look};
+ghost use Rattle.ras_shape.specs.Ways.{has_one_position, way_between, head_of_tree, index_way_of, is_axis_of_domain, is_axis_way};
+ghost use Rattle.ras_shape.specs.Ways.{part_way_of, bound_look, part_look};
 ghost use Rattle.spec_expressions.specs.Shape.{side_of};
 ghost use Rattle.spec_expressions.specs.Check.{tree_of_axes};
 ghost use Rattle.spec_expressions.specs.Tree.{no_axes, position, tree_of, lower as lower_side, upper as upper_side};
@@ -99,7 +100,8 @@ fn only_axis(axes: &[TypedAxis]) -> Option<&TypedAxis>
 /// The position, where there is no other and no trim.
 #[tactic(auto, using(crate::proofs::Indexing::one_axis))]
 fn only_position(axes: &[TypedAxis]) -> Option<&TypedExpr>
-    ensures { MatchOption result (has_one_position (tree_of_axes axes.now) ≡ false) (λ x. tree_of_axes axes.now ≡ position (tree_of x.now) no_axes) }
+    ensures { MatchOption result (has_one_position (tree_of_axes axes.now) ≡ false)
+        (λ x. tree_of_axes axes.now ≡ position (tree_of x.now) no_axes) }
 {
     let Some(axis) = only_axis(axes) else {
         return None;

@@ -1,5 +1,4 @@
 use Rattle.std.proofs.Common.{◌≡◌, drop}
-use Rattle.std.specs.Prelude.{map}
 use Rattle.spec_expressions.specs.Shape.{box_of}
 use Rattle.ras_shape.specs.Gives.{shape_of_form}
 use Rattle.ras_shape.specs.Moves.{boxes_of_forms, placed_box}

@@ -1,0 +1,4 @@
+pub mod CellTypes
+pub mod KindsOfParts
+pub mod ShapesByKind
+pub mod ShapesOfParts

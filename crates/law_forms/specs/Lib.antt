@@ -1,0 +1,2 @@
+pub mod FormKinds
+pub mod FormShapes

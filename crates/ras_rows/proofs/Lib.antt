@@ -1,0 +1,10 @@
+pub mod Allowed
+pub mod Conjuncts
+pub mod Counts
+pub mod Limited
+pub mod Lookups
+pub mod Named
+pub mod Planned
+pub mod RowAt
+pub mod Targets
+pub mod Turns

@@ -1,0 +1,5 @@
+pub mod Arrays
+pub mod Asked
+pub mod Plans
+pub mod RowsKept
+pub mod Stops
