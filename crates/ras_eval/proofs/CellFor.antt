@@ -1,11 +1,12 @@
 -- The cell at one point.
-use Rattle.std.proofs.Common.{◌≡◌, List, [], ◌∷◌, Result, Ok, Err, refl, sym, ap, ◌∙◌, subst}
+use Rattle.std.proofs.Common.{◌≡◌, ℕ, List, [], ◌∷◌, ◌++◌, Result, Ok, Err, refl, sym, ap, ◌∙◌, subst}
 use Rattle.std.specs.Prelude.{ℤ, Option}
 use Rattle.arrayvec.specs.ArrayVec.{ArrayVec}
 use Rattle.ras_cells.specs.declared.cell.Cell.{Cell}
 use Rattle.ras_cells.specs.declared.cell.CellFault.{CellFault}
 use Rattle.ras_cells.specs.Outcomes.{◌>>=◌}
 use Rattle.ras_eval.specs.Cells.{CellStore, cell_for, each_in_order}
+use Rattle.ras_syntax.specs.CellList.{Cells}
 use Rattle.ras_eval.specs.Given.{IsCellStop, stop_of_error}
 use Rattle.ras_eval.specs.declared.stops.CellStop.{CellStop}
 use Rattle.ras_eval.specs.declared.stops.CellStop.TheVariants as ends
@@ -38,3 +39,8 @@ module _ (store : CellStore) (cells : List ℤ → CellOutcome) where
   pub alone_stop : (stop : CellStop) → IsCellStop (cell_for store cells []) stop → IsCellStop (each_in_order (cell_for store cells) ([] ∷ [])) stop
   alone_stop (ends.Fault point fault) is = ap (λ (r : Result Cell (List ℤ × CellFault)). r >>= λ y. Ok (y ∷ [])) is
   alone_stop ends.Memory is = tt
+
+  pub alone_list : (x : Cell) (width : ℕ) (list new : Cells) → cell_for store cells [] ≡ Ok x → list ≡ record { width = width; cells = []; room = 1 }
+      → new ≡ record list { cells = list.cells ++ x ∷ [] } → each_in_order (cell_for store cells) ([] ∷ []) ≡ Ok new.cells
+  alone_list x width list new is empty more =
+      alone_ok x is ∙ ap (λ (l : Cells). Ok (l.cells ++ x ∷ [])) (sym empty) ∙ ap (λ (l : Cells). Ok l.cells) (sym more)

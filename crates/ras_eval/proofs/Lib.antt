@@ -6,3 +6,6 @@ pub mod Written
 pub mod Targets
 pub mod Whole
 pub mod CellFor
+pub mod ShownRows
+pub mod SeenRows
+pub mod SeenValues

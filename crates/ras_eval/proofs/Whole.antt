@@ -41,7 +41,7 @@ shaped-row : (body : Tree) (row : ℕ × Row) (shape : Result Shape ShapeMisfit)
 shaped-row body row (Ok s) plan is made =
     let same : record { number = row.0; row = row.1; shape = s; cuts = []; writing = None } ≡ plan = cc in
     subst (HasBodyShape body) same (record { shape = is })
-shaped-row body row (Err misfit) plan is made = cc
+shaped-row body row (Err misfit) plan is made = absurd cc
 
 shaped-rows : (body : Tree) (sources : List CheckedSource) (condition : Condition) (rows : List (ℕ × Row)) (plans : List Plan)
     → plans_of (select body sources condition) rows ≡ Ok plans → AllByRecursion (HasBodyShape body) plans
@@ -53,8 +53,8 @@ shaped-rows body sources condition (row ∷ rows) plans is =
     both : (first : Result Plan Reply) (rest : Result (List Plan) Reply) → ((plan : Plan) → first ≡ Ok plan → HasBodyShape body plan)
         → ((others : List Plan) → rest ≡ Ok others → AllByRecursion (HasBodyShape body) others)
         → (first >>= λ plan. rest >>= λ others. Ok (plan ∷ others)) ≡ Ok plans → AllByRecursion (HasBodyShape body) plans
-    both (Err reply) rest one all e = cc
-    both (Ok plan) (Err reply) one all e = cc
+    both (Err reply) rest one all e = absurd cc
+    both (Ok plan) (Err reply) one all e = absurd cc
     both (Ok plan) (Ok others) one all e =
         let same : (plan ∷ others) ≡ plans = cc in subst (AllByRecursion (HasBodyShape body)) same (one plan refl, all others refl)
 

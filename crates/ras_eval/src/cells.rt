@@ -92,7 +92,6 @@ fn cells_in<A: Arrays>(
 }
 
 /// The cell at a point, or its fault, or the fault of what it is computed for.
-#[tactic(none)]
 fn cell_at<A: Arrays>(
     node: &Node,
     row: &A,

@@ -2,6 +2,7 @@
 #![tactic(auto)]
 
 mod arrays;
+mod calls;
 mod cells;
 mod evaluation;
 mod passing;
@@ -11,6 +12,7 @@ mod select;
 mod stops;
 mod writes;
 
+pub use calls::{evaluate, passing_rows};
 pub use evaluation::compute;
 pub use passing::rows_that_pass;
 pub use ras_store::{Computed, RowSet, Write};

@@ -178,7 +178,6 @@ fn cells_of_body(
 
 /// Whether the points of a region are those of a body in the same order, each with the coordinates of
 /// the target's positions put in.
-#[tactic(none)]
 fn is_target(cuts: &[Cut], region: &[Interval], body: &[Interval]) -> bool
     ensures { result ≡ true → points_of region.now ≡ map (target_point (map cut_seen cuts.now)) (points_of body.now) }
 {
