@@ -93,7 +93,7 @@ module _ (condition : Condition) where
 -- ---- one row
 
 cell-alone : (o : CellOutcome) (cell : Cell) → (cell_for (stored_for Answer) (λ _. o) [] ≡ Ok cell) → o ≡ Ok cell
-cell-alone (Ok x) cell is = is
+cell-alone (Ok x) cell is = let same : x ≡ cell = cc in ap Ok same
 cell-alone (Err fault) cell is = cc
 
 test-alone : (k : ℕ) (o : CellOutcome) (stop : CellStop) → IsCellStop (cell_for (stored_for Answer) (λ _. o) []) stop → IsStop (tested_in_row k (o >>= λ x. Ok (holds x))) (reply_stop k stop)

@@ -75,7 +75,7 @@ target_none (cut ∷ cuts) region body few same = absurd (omega (arith, few))
 
 -- what is left of a list after its first item
 left-of : {X : Type 0} (x : X) (xs : List X) → take (length (x ∷ xs) - 1) (drop 1 (x ∷ xs)) ≡ xs
-left-of x xs = let same : length (x ∷ xs) - 1 ≡ length xs = omega arith in ap (λ n. take n xs) same ∙ take_all xs (length xs) (omega arith)
+left-of x xs = let same : length (x ∷ xs) - 1 ≡ length xs = omega arith in ap (λ n. take n xs) same ∙ take_all (length xs) xs (omega arith)
 
 -- a position first
 pub target_position : (cuts : List CutFound) (region body : Box) (z : ℤ) (d : CutFound) (i : Interval) → 1 ≤ length cuts → 1 ≤ length region → get_or cuts 0 d ≡ Fixed z

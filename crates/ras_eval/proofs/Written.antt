@@ -140,7 +140,7 @@ module _ (store : CellStore) (body : Tree) (plan : Plan) where
       → writing_in_row store body plan ≡ Ok (record { identifiers = identifiers; grown = pair.0; stores = pair.1 })
   writing_made pair identifiers is same = made-by (plan_stores store body plan) pair identifiers is same
 
-  writing-stops : (out : Stored) (stop : Stop) → IsStop (out >>= λ s. Ok (grown_of plan, s)) stop → IsStop (out >>= λ s. Ok (row_writing (plan, s))) stop
+  writing-stops : (out : Stored) (stop : Stop) → IsStop {B = Box × Stores} (out >>= λ s. Ok (grown_of plan, s)) stop → IsStop (out >>= λ s. Ok (row_writing (plan, s))) stop
   writing-stops (Ok s) (stops.Answer answer) is = cc
   writing-stops (Err reply) (stops.Answer answer) is = ap (λ (r : Result (Box × Stores) Reply). r >>= λ z. Ok (row_writing (plan, z.1))) is
   writing-stops out stops.Memory is = tt
