@@ -9,4 +9,3 @@ pub mod CellFor
 pub mod ShownRows
 pub mod SeenRows
 pub mod SeenValues
-pub mod Members
