@@ -41,7 +41,6 @@ values_each body (plan ∷ plans) =
 
 -- ---- the cells of a row
 
-
 one-answer : (p : List ℤ) (o : CellOutcome) (rest other : Result (List Cell) (List ℤ × CellFault)) → rest ≡ other
     → ((at_body_point p o >>= λ cell. at_body_point p (stored_for Answer cell) >>= λ stored. Ok cell) >>= λ y. rest >>= λ ys. Ok (y ∷ ys))
     ≡ (with_place p o >>= λ x. other >>= λ xs. Ok (x ∷ xs))

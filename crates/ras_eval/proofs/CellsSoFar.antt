@@ -43,7 +43,7 @@ module _ (store : CellStore) (over : List (List ℤ) → List ℤ → CellOutcom
     so_far_turn x new q left below is new_is next same =
         record {
           done = each_turn (cell_for store (over [])) points list.cells new.cells place p x (h.at (omega (arith, h.whole)))
-            (ap (λ (s : List (List ℤ)). cell_for store (over s) p) (sym h.nothing) ∙ is) (ap (λ (l : Cells). l.cells) new_is) h.done;
+              (ap (λ (s : List (List ℤ)). cell_for store (over s) p) (sym h.nothing) ∙ is) (ap (λ (l : Cells). l.cells) new_is) h.done;
           long = ap (λ (l : Cells). length l.cells) new_is ∙ length-append list.cells (x ∷ []) ∙ ap (λ n. n + 1) h.long;
           room = ap (λ (l : Cells). l.room) new_is ∙ h.room;
           wide = ap (λ (l : Cells). l.width) new_is ∙ h.wide;

@@ -16,7 +16,8 @@ use Rattle.ras_syntax.specs.declared.statement.Statement.{Statement}
 use Rattle.ras_syntax.specs.declared.types.SetType.{SetType}
 use Rattle.ras_syntax.specs.declared.typed.Checked.{Checked}
 use Rattle.spec_expressions.specs.Database.{Database}
-use Rattle.spec_statements.specs.Effects.{StatementOutcome, Stores, insert_outcome, insert_store, outcome_of, outcome_of_plans, reply_in, reply_of_checked, stores_of_plans, update_store, values_of_plans, with_arrays, with_changed, with_updated}
+use Rattle.spec_statements.specs.Effects.{StatementOutcome, Stores, insert_outcome, insert_store, outcome_of, outcome_of_plans, reply_in}
+use Rattle.spec_statements.specs.Effects.{reply_of_checked, stores_of_plans, update_store, values_of_plans, with_arrays, with_changed, with_updated}
 use Rattle.spec_statements.specs.Limits.{limited_locks, whole_text}
 use Rattle.spec_statements.specs.Machine.{reply_of}
 use Rattle.spec_statements.specs.Phases.{phase_4_list, until_bodies, until_plans}
@@ -79,10 +80,10 @@ stop-at (Err other) value next reply is = let same : other ≡ reply = cc in sam
 pub stops_by : (request : Request) (plans : List Plan) (database : Database) (reply : Reply) → computed_of_plans request plans ≡ Err reply
     → reply_in (outcome_of_plans request plans database) ≡ reply
 stops_by (select body sources condition) plans database reply is = stop-at (values_of_plans body plans) answered (λ rows. Ok (values rows, database)) reply is
-stops_by (insert into of body) plans database reply is = 
+stops_by (insert into of body) plans database reply is =
     stop-in (stores_of_plans (insert_store of) body plans) (map row_writing) written (λ stores. Ok (insert_outcome into of database stores)) reply is
 stops_by (delete source condition) plans database reply is = absurd cc
-stops_by (update source axes target body condition) plans database reply is = 
+stops_by (update source axes target body condition) plans database reply is =
     stop-in (stores_of_plans (update_store source.of) body plans) (map row_writing) written
     (λ stores. Ok (done (length plans), with_changed source.collection (λ collection. with_arrays collection (with_updated source.of collection.arrays stores)) database)) reply is
 stops_by (create name of) plans database reply is = absurd cc
@@ -131,7 +132,8 @@ module _ (tree : StatementTree) (database : Database) where
       by : (r : Result (List Plan) Reply) → until_plans tree database ≡ r → (r >>= computed_of_plans tree.request) ≡ Err reply → reply_of_checked tree database ≡ reply
       by (Err other) e f =
           let same : other ≡ reply = cc in
-          ap (λ (r : Result (List Plan) Reply). reply_in ((r >>= λ some. limited_locks tree (phase_4_list tree some) >>= λ asked. Ok some) >>= λ some. outcome_of_plans tree.request some database)) e ∙ same
+          ap (λ (r : Result (List Plan) Reply). reply_in ((r >>= λ some. limited_locks tree (phase_4_list tree some) >>= λ asked. Ok some)
+          >>= λ some. outcome_of_plans tree.request some database)) e ∙ same
       by (Ok plans) e f =
           ap (λ (r : Result (List Plan) Reply). reply_in (r >>= λ some. outcome_of_plans tree.request some database)) (bodies-short plans e short) ∙ stops_by tree.request plans database reply f
 
@@ -154,8 +156,10 @@ module _ (types : List SetType) (statement : Statement) (holdings : Holdings) (c
       seen_passing types statement holdings shown other is.setting checked given.short is.check (earlier shown is.seen) (earlier other seen) ∙ pass in
       let not_long : reply_of_checked checked_tree shown ≡ too_many_locks checked_tree → ⊥ =
       λ e. short (same_answers types statement holdings checked shown one given.short is given.seen ∙ e) in
-      let here : over checked_tree shown ≡ computed_over checked_tree (rows_listed holdings (sources_of (request_of checked.form)) names) = computed_shown checked_tree holdings shown names is.rows passes in
-      by shown here not_long (same_answers types statement holdings checked shown other given.short is seen) (same_writings types statement holdings checked shown other given.short is seen) result gives
+      let here : over checked_tree shown ≡ computed_over checked_tree (rows_listed holdings (sources_of (request_of checked.form)) names) =
+      computed_shown checked_tree holdings shown names is.rows passes in
+      by shown here not_long (same_answers types statement holdings checked shown other given.short is seen)
+      (same_writings types statement holdings checked shown other given.short is seen) result gives
     where
       by : (shown : Database) → over checked_tree shown ≡ computed_over checked_tree (rows_listed holdings (sources_of (request_of checked.form)) names)
           → (reply_of_checked checked_tree shown ≡ too_many_locks checked_tree → ⊥) → reply_of types statement other ≡ reply_of_checked checked_tree shown

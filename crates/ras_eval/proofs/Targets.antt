@@ -65,7 +65,7 @@ pub target_between : (axis first : Interval) (lo hi : ℤ) (cuts : List Cut) (re
 target_between axis first lo hi cuts rest body is same =
     ap (λ (a : Interval). points_of (a ∷ rest)) is
     ∙ same-pieces (λ c. map (λ p. c ∷ p) (points_of rest)) (λ c. map (target_point (between lo hi ∷ cuts)) (map (λ p. c ∷ p) (points_of body)))
-      (λ c. ap (λ ps. map (λ p. c ∷ p) ps) same ∙ between-piece lo hi c cuts (points_of body)) (coordinates_of first)
+    (λ c. ap (λ ps. map (λ p. c ∷ p) ps) same ∙ between-piece lo hi c cuts (points_of body)) (coordinates_of first)
     ∙ sym (map-pieces (target_point (between lo hi ∷ cuts)) (λ c. map (λ p. c ∷ p) (points_of body)) (coordinates_of first))
 
 -- without cuts

@@ -5,7 +5,8 @@ use Rattle.std.specs.List.{AllByRecursion, slice_get}
 use Rattle.ras_cells.specs.Outcomes.{◌>>=◌}
 use Rattle.law_work.specs.Writes.{writings_of}
 use Rattle.ras_eval.specs.Cells.{each_in_order}
-use Rattle.ras_eval.specs.Computed.{AreReadBy, ComputedValue, HasBodyShape, answered, answered_in, computed_of_plans, computed_seen, computing_of, row_written, writing_seen_of, written, written_in_rows}
+use Rattle.ras_eval.specs.Computed.{AreReadBy, ComputedValue, HasBodyShape, answered, answered_in, computed_of_plans, computed_seen, computing_of, row_written}
+use Rattle.ras_eval.specs.Computed.{writing_seen_of, written, written_in_rows}
 use Rattle.ras_eval.proofs.Written.{deletes_each, inserts_each, updates_each}
 use Rattle.ras_rows.specs.Plans.{planned}
 use Rattle.ras_rows.specs.declared.stop.Stop.{Stop}
@@ -88,7 +89,8 @@ pub answered_stop : (rows : Result (List RowReply) Reply) (stop : Stop) → IsSt
 answered_stop rows (stops.Answer answer) is = ap answered_in is
 answered_stop rows stops.Memory is = tt
 
-written_gives : (seen : List Write → List RowWriting) (wanted : Result (List RowWriting) Reply) (view : Computed → ComputedValue) → ((writes : List Write) → view (Writes writes) ≡ written (seen writes))
+written_gives : (seen : List Write → List RowWriting) (wanted : Result (List RowWriting) Reply) (view : Computed → ComputedValue)
+    → ((writes : List Write) → view (Writes writes) ≡ written (seen writes))
     → (result : Result (List Write) Stop) → GivesOrStops seen wanted result → GivesOrStops view (written_in_rows wanted) (computing_of result)
 written_gives seen wanted view same (Ok writes) gives = ap written_in_rows gives ∙ ap Ok (sym (same writes))
 written_gives seen wanted view same (Err (stops.Answer answer)) gives = ap written_in_rows gives
@@ -115,4 +117,5 @@ pub deleted_gives : (source : CheckedSource) (condition : Condition) (plans : Li
     → GivesOrStops (computed_seen (delete source condition)) (computed_of_plans (delete source condition) plans) (computing_of result)
 deleted_gives source condition plans result gives =
     subst (λ (r : Result (List RowWriting) Reply). GivesOrStops (computed_seen (delete source condition)) (written_in_rows r) (computing_of result)) (sym (deletes_each source condition plans))
-    (written_gives (map (writing_seen_of (delete source condition))) (each_in_order (row_written (delete source condition)) plans) (computed_seen (delete source condition)) (λ writes. refl) result gives)
+    (written_gives (map (writing_seen_of (delete source condition))) (each_in_order (row_written (delete source condition)) plans)
+    (computed_seen (delete source condition)) (λ writes. refl) result gives)

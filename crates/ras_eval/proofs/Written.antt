@@ -70,7 +70,8 @@ deletes_each source condition plans = nothing_each plans
 abbrev zipped : CellStore → List (List ℤ) → Result (List Cell) (List ℤ × CellFault) → Result Stores (List ℤ × CellFault)
 zipped store ps cells = cells >>= λ xs. Ok (zip ps (map (λ cell. numbers_stored (store cell)) xs))
 
-one-store : (store : CellStore) (p q : List ℤ) (ps : List (List ℤ)) (o : CellOutcome) (rest : Result (List Cell) (List ℤ × CellFault)) (other : Result Stores (List ℤ × CellFault)) → other ≡ zipped store ps rest
+one-store : (store : CellStore) (p q : List ℤ) (ps : List (List ℤ)) (o : CellOutcome) (rest : Result (List Cell) (List ℤ × CellFault))
+    (other : Result Stores (List ℤ × CellFault)) → other ≡ zipped store ps rest
     → (at_body_point p o >>= λ cell. at_body_point p (store cell) >>= λ stored. other >>= λ others. Ok ((q, stored) ∷ others))
     ≡ zipped store (q ∷ ps) ((at_body_point p o >>= λ cell. at_body_point p (store cell) >>= λ stored. Ok cell) >>= λ y. rest >>= λ ys. Ok (y ∷ ys))
 one-store store p q ps (Err fault) rest other same = refl
@@ -86,10 +87,10 @@ one-store store p q ps (Ok x) rest other same = stored_as (store x) refl
         ≡ zipped store (q ∷ ps) ((at_body_point p (store x) >>= λ stored. Ok x) >>= λ y. rest >>= λ ys. Ok (y ∷ ys))
     stored_as (Err fault) is =
         subst (λ (r : Result (Option (List ℤ)) CellFault). (at_body_point p r >>= λ stored. other >>= λ others. Ok ((q, stored) ∷ others))
-          ≡ zipped store (q ∷ ps) ((at_body_point p r >>= λ stored. Ok x) >>= λ y. rest >>= λ ys. Ok (y ∷ ys))) (sym is) refl
+        ≡ zipped store (q ∷ ps) ((at_body_point p r >>= λ stored. Ok x) >>= λ y. rest >>= λ ys. Ok (y ∷ ys))) (sym is) refl
     stored_as (Ok stored) is =
         subst (λ (r : Result (Option (List ℤ)) CellFault). (at_body_point p r >>= λ stored. other >>= λ others. Ok ((q, stored) ∷ others))
-          ≡ zipped store (q ∷ ps) ((at_body_point p r >>= λ stored. Ok x) >>= λ y. rest >>= λ ys. Ok (y ∷ ys))) (sym is)
+        ≡ zipped store (q ∷ ps) ((at_body_point p r >>= λ stored. Ok x) >>= λ y. rest >>= λ ys. Ok (y ∷ ys))) (sym is)
         (ap (λ (o : Result Stores (List ℤ × CellFault)). o >>= λ others. Ok ((q, stored) ∷ others)) same ∙ joined rest stored is)
 
 stores_cells : (store : CellStore) (scope : Environment) (body : Tree) (cuts : List Cut) (ps : List (List ℤ))

@@ -29,7 +29,8 @@ pub(crate) fn cells_of<A: Arrays>(
     width: u32,
     purpose: &Purpose<'_>,
 ) -> Result<CellList, CellStop>
-    ensures { GivesCells (λ list. list.cells) (cells_for (stored_for purpose.now) (cells_of_node node.now (A.members row.now) []) (points_of (box_of (shape_of_form form.now)))) result }
+    ensures { GivesCells (λ list. list.cells) (cells_for (stored_for purpose.now)
+        (cells_of_node node.now (A.members row.now) []) (points_of (box_of (shape_of_form form.now)))) result }
 {
     match form {
         Form::Scalar => alone(alloc, node, row, width, purpose),
@@ -47,7 +48,8 @@ fn alone<A: Arrays>(
     width: u32,
     purpose: &Purpose<'_>,
 ) -> Result<CellList, CellStop>
-    ensures { GivesCells (λ list. list.cells) (cells_for (stored_for purpose.now) (cells_of_node node.now (A.members row.now) []) ([] ∷ [])) result }
+    ensures { GivesCells (λ list. list.cells) (cells_for (stored_for purpose.now)
+        (cells_of_node node.now (A.members row.now) []) ([] ∷ [])) result }
 {
     let x = scalar(alloc, node, row, purpose)?;
     let mut cells = CellList::with_room(alloc, width, 1)?;
@@ -77,7 +79,8 @@ fn cells_in<A: Arrays>(
     width: u32,
     purpose: &Purpose<'_>,
 ) -> Result<CellList, CellStop>
-    ensures { GivesCells (λ list. list.cells) (cells_for (stored_for purpose.now) (cells_of_node node.now (A.members row.now) []) (points_of region.now)) result }
+    ensures { GivesCells (λ list. list.cells) (cells_for (stored_for purpose.now)
+        (cells_of_node node.now (A.members row.now) []) (points_of region.now)) result }
 {
     let count = region.volume();
     let mut cells = CellList::with_room(alloc, width, count as usize)?;
@@ -99,7 +102,8 @@ fn cell_at<A: Arrays>(
     p: &Point,
     purpose: &Purpose<'_>,
 ) -> Result<Cell, CellStop>
-    ensures cell { GivesCells (λ x. x) (cell_for (stored_for purpose.now) (cells_of_node node.now (A.members row.now) scope.old) p.now.items) result }
+    ensures cell { GivesCells (λ x. x) (cell_for (stored_for purpose.now)
+        (cells_of_node node.now (A.members row.now) scope.old) p.now.items) result }
     ensures same { scope.new ≡ scope.old }
 {
     match cell(node, row, scope, p) {

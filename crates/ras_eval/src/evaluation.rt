@@ -26,7 +26,8 @@ pub fn compute(
     rows: &RowSet,
 ) -> Result<Computed, Stop>
     ensures { GivesOrStops (computed_seen (request_of checked.now.form))
-        (computed_over (statement_tree_of checked.now) (rows_listed (holdings_in view.now) (sources_of (request_of checked.now.form)) rows.now)) result }
+        (computed_over (statement_tree_of checked.now)
+        (rows_listed (holdings_in view.now) (sources_of (request_of checked.now.form)) rows.now)) result }
 {
     let plans = plan_rows(alloc, checked, view, rows)?;
     computed(alloc, &checked.form, view, plans.as_slice())
@@ -40,7 +41,8 @@ fn computed(
     plans: &[Plan<'_>],
 ) -> Result<Computed, Stop>
     requires { AreReadBy (request_of form.now) (map plan_seen plans.now) }
-    ensures { GivesOrStops (computed_seen (request_of form.now)) (computed_of_plans (request_of form.now) (map plan_seen plans.now)) result }
+    ensures { GivesOrStops (computed_seen (request_of form.now)) (computed_of_plans (request_of form.now)
+        (map plan_seen plans.now)) result }
 {
     match form {
         CheckedForm::Select {

@@ -26,7 +26,8 @@ use std::alloc::{AllocError, Global};
 /// The answer is that there are too many rows, or else the first row in which the condition has no
 /// shape, or else the first one in which it has a fault.
 pub fn rows_that_pass(alloc: Global, checked: &Checked, view: &View) -> Result<RowSet, Stop>
-    ensures { GivesOrStops (λ set. set) (passing_over (statement_tree_of checked.now) (rows_shown (request_of checked.now.form) (holdings_in view.now))) result }
+    ensures { GivesOrStops (λ set. set) (passing_over (statement_tree_of checked.now)
+        (rows_shown (request_of checked.now.form) (holdings_in view.now))) result }
 {
     let rows = Rows::of(alloc, checked, view)?;
     shape_condition(alloc, checked, &rows)?;
@@ -34,12 +35,9 @@ pub fn rows_that_pass(alloc: Global, checked: &Checked, view: &View) -> Result<R
 }
 
 /// Those of the rows that pass a condition.
-fn passing(
-    alloc: Global,
-    condition: Option<&TypedExpr>,
-    rows: &Rows<'_>,
-) -> Result<RowSet, Stop>
-    ensures { GivesOrStops (λ set. set) (passing_named (condition_of (option_map tree_of (option_copied condition.entry))) rows.now) result }
+fn passing(alloc: Global, condition: Option<&TypedExpr>, rows: &Rows<'_>) -> Result<RowSet, Stop>
+    ensures { GivesOrStops (λ set. set) (passing_named
+        (condition_of (option_map tree_of (option_copied condition.entry))) rows.now) result }
 {
     let mut set = RowSet::new(alloc);
     for place in 0..rows.len() {
@@ -58,7 +56,8 @@ fn passes(
     number: u64,
     row: &[ShownArray<'_>],
 ) -> Result<bool, Stop>
-    ensures { GivesOrStops (λ keeps. keeps) (row_passes (condition_of (option_map tree_of (option_copied condition.entry))) (number, row.now)) result }
+    ensures { GivesOrStops (λ keeps. keeps) (row_passes
+        (condition_of (option_map tree_of (option_copied condition.entry))) (number, row.now)) result }
 {
     match condition {
         Some(e) => is_true(alloc, e, number, row),
@@ -67,12 +66,7 @@ fn passes(
 }
 
 /// Whether a condition holds in a row.
-fn is_true(
-    alloc: Global,
-    e: &TypedExpr,
-    number: u64,
-    row: &[ShownArray<'_>],
-) -> Result<bool, Stop>
+fn is_true(alloc: Global, e: &TypedExpr, number: u64, row: &[ShownArray<'_>]) -> Result<bool, Stop>
     ensures { GivesOrStops (λ keeps. keeps) (row_passes (only_where (tree_of e.now)) (number, row.now)) result }
 {
     let arrays = RowArrays { arrays: row };

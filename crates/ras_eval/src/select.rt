@@ -23,11 +23,7 @@ use std::alloc::{AllocError, Global};
 
 /// What a select answers in the rows of its plans, or the first fault of a cell, by its row and its
 /// point.
-pub(crate) fn answered(
-    alloc: Global,
-    body: &TypedExpr,
-    plans: &[Plan<'_>],
-) -> Result<RowList, Stop>
+pub(crate) fn answered(alloc: Global, body: &TypedExpr, plans: &[Plan<'_>]) -> Result<RowList, Stop>
     requires { AllByRecursion (HasBodyShape (tree_of body.now)) (map plan_seen plans.now) }
     ensures { GivesOrStops (λ rows. map row_reply_of rows) (values_of_plans (tree_of body.now) (map plan_seen plans.now)) result }
 {
@@ -77,7 +73,8 @@ fn value_of(alloc: Global, body: &TypedExpr, plan: &Plan<'_>) -> Result<RowValue
 /// The cells of the body in a row.
 fn cells_of_row(alloc: Global, body: &TypedExpr, plan: &Plan<'_>) -> Result<CellList, Stop>
     requires { HasBodyShape (tree_of body.now) (plan_seen plan.now) }
-    ensures { GivesOrStops (λ list. list.cells) (faulty_in plan.now.number (cells_over (environment_of plan.now.row.items) (tree_of body.now))) result }
+    ensures { GivesOrStops (λ list. list.cells) (faulty_in plan.now.number
+        (cells_over (environment_of plan.now.row.items) (tree_of body.now))) result }
 {
     let row = RowArrays {
         arrays: plan.row.as_slice(),

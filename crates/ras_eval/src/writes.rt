@@ -3,7 +3,8 @@ ghost use Rattle.std.specs.Prelude.{◌≡◌, [], ◌∷◌, ◌++◌, true, ma
 ghost use Rattle.ras_domain.specs.Boxes.{is_same_box};
 ghost use Rattle.ras_domain.specs.Region.{points_of};
 ghost use Rattle.ras_eval.specs.Cells.{cells_for, each_in_order, stored_for};
-ghost use Rattle.ras_eval.specs.Computed.{deleted_writing, inserted_writing, row_stores, row_written, stores_seen, updated_writing, writing_in_row, writing_seen_of};
+ghost use Rattle.ras_eval.specs.Computed.{deleted_writing, inserted_writing, row_stores, row_written, stores_seen};
+ghost use Rattle.ras_eval.specs.Computed.{updated_writing, writing_in_row, writing_seen_of};
 ghost use Rattle.ras_rows.specs.Plans.{cut_seen, plan_seen};
 ghost use Rattle.ras_rows.specs.Stops.{GivesOrStops};
 ghost use Rattle.spec_expressions.specs.Eval.{cell_at};
@@ -33,7 +34,8 @@ pub(crate) fn writes_of(
     next: u64,
     plans: &[Plan<'_>],
 ) -> Result<List<Write>, Stop>
-    ensures { GivesOrStops (map (writing_seen_of (request_of form.now))) (each_in_order (row_written (request_of form.now)) (map plan_seen plans.now)) result }
+    ensures { GivesOrStops (map (writing_seen_of (request_of form.now))) (each_in_order
+        (row_written (request_of form.now)) (map plan_seen plans.now)) result }
 {
     let mut writes = List::new(alloc);
     for plan in plans {
@@ -54,12 +56,7 @@ fn put(alloc: Global, writes: &mut List<Write>, write: Write) -> Result<(), Allo
 }
 
 /// What it writes in one row.
-fn write_of(
-    alloc: Global,
-    form: &CheckedForm,
-    next: u64,
-    plan: &Plan<'_>,
-) -> Result<Write, Stop>
+fn write_of(alloc: Global, form: &CheckedForm, next: u64, plan: &Plan<'_>) -> Result<Write, Stop>
     ensures { GivesOrStops (writing_seen_of (request_of form.now)) (row_written (request_of form.now) (plan_seen plan.now)) result }
 {
     match form {
@@ -91,7 +88,8 @@ fn insert(
     oid: u64,
     plan: &Plan<'_>,
 ) -> Result<Write, Stop>
-    ensures { GivesOrStops (inserted_writing (insert_store of.now)) (writing_in_row (insert_store of.now) (tree_of body.now) (plan_seen plan.now)) result }
+    ensures { GivesOrStops (inserted_writing (insert_store of.now)) (writing_in_row (insert_store of.now)
+        (tree_of body.now) (plan_seen plan.now)) result }
 {
     match plan.row.as_slice() {
         [] => write(alloc, body, &Purpose::Insert(of), of, oid, plan),
@@ -102,7 +100,8 @@ fn insert(
 /// The cells that an update writes over those of the one array of a row; another row, which no update
 /// has, is answered as want of memory.
 fn update(alloc: Global, of: &SetType, body: &TypedExpr, plan: &Plan<'_>) -> Result<Write, Stop>
-    ensures { GivesOrStops (updated_writing (update_store of.now)) (writing_in_row (update_store of.now) (tree_of body.now) (plan_seen plan.now)) result }
+    ensures { GivesOrStops (updated_writing (update_store of.now)) (writing_in_row (update_store of.now)
+        (tree_of body.now) (plan_seen plan.now)) result }
 {
     match plan.row.as_slice() {
         [array] => write(alloc, body, &Purpose::Update(of), of, array.oid(), plan),
@@ -136,13 +135,18 @@ fn write(
     oid: u64,
     plan: &Plan<'_>,
 ) -> Result<Write, Stop>
-    ensures stores { GivesOrStops (stores_seen (stored_for purpose.now)) (row_stores (stored_for purpose.now) (tree_of body.now) (plan_seen plan.now)) result }
+    ensures stores { GivesOrStops (stores_seen (stored_for purpose.now)) (row_stores (stored_for purpose.now)
+        (tree_of body.now) (plan_seen plan.now)) result }
     ensures oid { IfOk result (λ write. write.oid ≡ oid) }
 {
     let Some(writing) = &plan.writing else {
         return Err(Stop::Memory);
     };
-    if !is_target(plan.cuts.as_slice(), writing.region.axes(), plan.shape.axes()) {
+    if !is_target(
+        plan.cuts.as_slice(),
+        writing.region.axes(),
+        plan.shape.axes(),
+    ) {
         return Err(Stop::Memory);
     }
     let cells = cells_of_body(alloc, body, purpose, of, plan)?;

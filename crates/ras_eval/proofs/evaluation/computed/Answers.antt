@@ -29,20 +29,20 @@ pub returns-in-Insert : goal.returns-in-Insert
 returns-in-Insert c =
     rw c.written.ensures
     (subst (λ form. GivesOrStops (map (writing_seen_of (request_of form))) (each_in_order (row_written (request_of form)) (map plan_seen c.args.plans.now)) c.writes_of.result
-      → GivesOrStops (computed_seen (request_of form)) (computed_of_plans (request_of form) (map plan_seen c.args.plans.now)) (computing_of c.writes_of.result)) (sym c.in-Insert.is)
+    → GivesOrStops (computed_seen (request_of form)) (computed_of_plans (request_of form) (map plan_seen c.args.plans.now)) (computing_of c.writes_of.result)) (sym c.in-Insert.is)
     (inserted_gives c.in-Insert.into c.in-Insert.of (tree_of c.in-Insert.body) (map plan_seen c.args.plans.now) c.writes_of.result) c.writes_of.ensures)
 
 pub returns-in-Delete : goal.returns-in-Delete
 returns-in-Delete c =
     rw c.written-in-Delete.ensures
     (subst (λ form. GivesOrStops (map (writing_seen_of (request_of form))) (each_in_order (row_written (request_of form)) (map plan_seen c.args.plans.now)) c.writes_of-in-Delete.result
-      → GivesOrStops (computed_seen (request_of form)) (computed_of_plans (request_of form) (map plan_seen c.args.plans.now)) (computing_of c.writes_of-in-Delete.result)) (sym c.in-Delete.is)
+    → GivesOrStops (computed_seen (request_of form)) (computed_of_plans (request_of form) (map plan_seen c.args.plans.now)) (computing_of c.writes_of-in-Delete.result)) (sym c.in-Delete.is)
     (deleted_gives c.in-Delete.source (condition_of (option_map tree_of c.in-Delete.cond)) (map plan_seen c.args.plans.now) c.writes_of-in-Delete.result) c.writes_of-in-Delete.ensures)
 
 pub returns-in-Update : goal.returns-in-Update
 returns-in-Update c =
     rw c.written-in-Update.ensures
     (subst (λ form. GivesOrStops (map (writing_seen_of (request_of form))) (each_in_order (row_written (request_of form)) (map plan_seen c.args.plans.now)) c.writes_of-in-Update.result
-      → GivesOrStops (computed_seen (request_of form)) (computed_of_plans (request_of form) (map plan_seen c.args.plans.now)) (computing_of c.writes_of-in-Update.result)) (sym c.in-Update.is)
+    → GivesOrStops (computed_seen (request_of form)) (computed_of_plans (request_of form) (map plan_seen c.args.plans.now)) (computing_of c.writes_of-in-Update.result)) (sym c.in-Update.is)
     (updated_gives c.in-Update.source (option_map target_axes c.in-Update.axes) c.in-Update.target (tree_of c.in-Update.body) (condition_of (option_map tree_of c.in-Update.cond))
-      (map plan_seen c.args.plans.now) c.writes_of-in-Update.result) c.writes_of-in-Update.ensures)
+    (map plan_seen c.args.plans.now) c.writes_of-in-Update.result) c.writes_of-in-Update.ensures)

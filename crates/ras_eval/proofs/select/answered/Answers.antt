@@ -15,7 +15,8 @@ use Rattle.ras_eval.proofs.select.answered.Goals as goal
 
 pub loop-plan-init : goal.loop-plan-init
 loop-plan-init c =
-    subst (λ rows. after (map row_reply_of rows) (each_in_order (row_value (tree_of c.args.body.now)) (map plan_seen c.args.plans.now)) ≡ each_in_order (row_value (tree_of c.args.body.now)) (map plan_seen c.args.plans.now))
+    subst (λ rows. after (map row_reply_of rows) (each_in_order (row_value (tree_of c.args.body.now)) (map plan_seen c.args.plans.now))
+    ≡ each_in_order (row_value (tree_of c.args.body.now)) (map plan_seen c.args.plans.now))
     (sym c.new-rows.ensures) (each_start (row_value (tree_of c.args.body.now)) (map plan_seen c.args.plans.now))
 
 pub value_of-requires : goal.value_of-requires

@@ -21,5 +21,5 @@ returns-clause-stores c =
     (record { oid = c.args.oid; grown = c.copy_of_region.result; region = c.copy_of_region-2.result; cells = c.in_ok-cells.cells })
     (ap (option_map writing_seen) c.in-Some.is)
     (ap points_of (sym c.axes.ensures.axes) ∙ c.is_target.ensures fits ∙ ap (λ cuts. map (target_point (map cut_seen cuts)) (points_of c.axes-2.result.now)) c.as_slice.ensures.value
-      ∙ ap (λ axes. map (target_point (map cut_seen c.args.plan.now.cuts.items)) (points_of axes)) c.axes-2.ensures.axes)
+    ∙ ap (λ axes. map (target_point (map cut_seen c.args.plan.now.cuts.items)) (points_of axes)) c.axes-2.ensures.axes)
     c.in_ok-cells.ensures c.copy_of_region.ensures c.copy_of_region-2.ensures

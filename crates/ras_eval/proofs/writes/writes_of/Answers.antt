@@ -11,7 +11,7 @@ use Rattle.ras_eval.proofs.writes.writes_of.Goals as goal
 pub loop-plan-init : goal.loop-plan-init
 loop-plan-init c =
     subst (λ writes. after (map (writing_seen_of (request_of c.args.form.now)) writes) (each_in_order (row_written (request_of c.args.form.now)) (map plan_seen c.args.plans.now))
-      ≡ each_in_order (row_written (request_of c.args.form.now)) (map plan_seen c.args.plans.now))
+    ≡ each_in_order (row_written (request_of c.args.form.now)) (map plan_seen c.args.plans.now))
     (sym c.new-writes.ensures) (each_start (row_written (request_of c.args.form.now)) (map plan_seen c.args.plans.now))
 
 pub returns-in_err-write : goal.returns-in_err-write
