@@ -1,0 +1,11 @@
+pub mod Each
+pub mod CellsSoFar
+pub mod PassingRows
+pub mod Answered
+pub mod Written
+pub mod Targets
+pub mod Whole
+pub mod CellFor
+pub mod ShownRows
+pub mod SeenRows
+pub mod SeenValues
