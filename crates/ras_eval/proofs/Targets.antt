@@ -7,9 +7,9 @@ use Rattle.std.proofs.lemmas.List.{append-nil, map-append, take_all}
 use Rattle.ras_domain.specs.declared.region.Interval.{Interval}
 use Rattle.ras_domain.specs.Region.{coordinates_of, extent_of, points_of}
 use Rattle.ras_domain.proofs.Points.{int_gap_is}
-use Rattle.ras_rows.specs.Plans.{cut_seen}
-use Rattle.ras_rows.specs.declared.cut.Cut.{Cut as CutFound}
-use Rattle.ras_rows.specs.declared.cut.Cut.TheVariants.{Fixed, Between}
+use Rattle.ras_shape.specs.Cuts.{cut_found}
+use Rattle.ras_shape.specs.declared.cuts.Cut.{Cut as CutFound}
+use Rattle.ras_shape.specs.declared.cuts.Cut.TheVariants.{Fixed, Between}
 use Rattle.spec_expressions.specs.Shape.{Box, Cut, fixed, between}
 use Rattle.spec_statements.specs.Plans.{target_point}
 
@@ -69,7 +69,7 @@ target_between axis first lo hi cuts rest body is same =
     ∙ sym (map-pieces (target_point (between lo hi ∷ cuts)) (λ c. map (λ p. c ∷ p) (points_of body)) (coordinates_of first))
 
 -- without cuts
-pub target_none : (cuts : List CutFound) (region body : Box) → length cuts < 1 → region ≡ body → points_of region ≡ map (target_point (map cut_seen cuts)) (points_of body)
+pub target_none : (cuts : List CutFound) (region body : Box) → length cuts < 1 → region ≡ body → points_of region ≡ map (target_point (map cut_found cuts)) (points_of body)
 target_none [] region body few same = target_nothing region body same
 target_none (cut ∷ cuts) region body few same = absurd (omega (arith, few))
 
@@ -80,26 +80,26 @@ left-of x xs = let same : length (x ∷ xs) - 1 ≡ length xs = omega arith in a
 -- a position first
 pub target_position : (cuts : List CutFound) (region body : Box) (z : ℤ) (d : CutFound) (i : Interval) → 1 ≤ length cuts → 1 ≤ length region → get_or cuts 0 d ≡ Fixed z
     → ((get_or region 0 i).lo ≡ z) × ((get_or region 0 i).hi ≡ z)
-    → points_of (take (length region - 1) (drop 1 region)) ≡ map (target_point (map cut_seen (take (length cuts - 1) (drop 1 cuts)))) (points_of body)
-    → points_of region ≡ map (target_point (map cut_seen cuts)) (points_of body)
+    → points_of (take (length region - 1) (drop 1 region)) ≡ map (target_point (map cut_found (take (length cuts - 1) (drop 1 cuts)))) (points_of body)
+    → points_of region ≡ map (target_point (map cut_found cuts)) (points_of body)
 target_position [] region body z d i some more is alone rest = absurd (omega (arith, some))
 target_position (cut ∷ cuts) [] body z d i some more is alone rest = absurd (omega (arith, more))
 target_position (cut ∷ cuts) (axis ∷ region) body z d i some more is alone rest =
-    target_fixed axis z (map cut_seen cuts) region body alone.0 alone.1
-    (ap points_of (sym (left-of axis region)) ∙ rest ∙ ap (λ cs. map (target_point (map cut_seen cs)) (points_of body)) (left-of cut cuts))
-    ∙ ap (λ (c : Cut). map (target_point (c ∷ map cut_seen cuts)) (points_of body)) (sym (ap cut_seen is))
+    target_fixed axis z (map cut_found cuts) region body alone.0 alone.1
+    (ap points_of (sym (left-of axis region)) ∙ rest ∙ ap (λ cs. map (target_point (map cut_found cs)) (points_of body)) (left-of cut cuts))
+    ∙ ap (λ (c : Cut). map (target_point (c ∷ map cut_found cuts)) (points_of body)) (sym (ap cut_found is))
 
 -- a trim first
 pub target_trim : (cuts : List CutFound) (region body : Box) (lo hi : ℤ) (d : CutFound) (i j : Interval) → 1 ≤ length cuts → 1 ≤ length region → 1 ≤ length body → get_or cuts 0 d ≡ Between lo hi
     → ((get_or region 0 i).lo ≡ (get_or body 0 j).lo) × ((get_or region 0 i).hi ≡ (get_or body 0 j).hi)
-    → points_of (take (length region - 1) (drop 1 region)) ≡ map (target_point (map cut_seen (take (length cuts - 1) (drop 1 cuts)))) (points_of (take (length body - 1) (drop 1 body)))
-    → points_of region ≡ map (target_point (map cut_seen cuts)) (points_of body)
+    → points_of (take (length region - 1) (drop 1 region)) ≡ map (target_point (map cut_found (take (length cuts - 1) (drop 1 cuts)))) (points_of (take (length body - 1) (drop 1 body)))
+    → points_of region ≡ map (target_point (map cut_found cuts)) (points_of body)
 target_trim [] region body lo hi d i j some more most is same rest = absurd (omega (arith, some))
 target_trim (cut ∷ cuts) [] body lo hi d i j some more most is same rest = absurd (omega (arith, more))
 target_trim (cut ∷ cuts) (axis ∷ region) [] lo hi d i j some more most is same rest = absurd (omega (arith, most))
 target_trim (cut ∷ cuts) (axis ∷ region) (first ∷ body) lo hi d i j some more most is same rest =
     let equal : axis ≡ first = ap (λ (l : ℤ). record { lo = l; hi = axis.hi }) same.0 ∙ ap (λ (h : ℤ). record { lo = first.lo; hi = h }) same.1 in
-    target_between axis first lo hi (map cut_seen cuts) region body equal
-    (ap points_of (sym (left-of axis region)) ∙ rest ∙ ap (λ cs. map (target_point (map cut_seen cs)) (points_of (take (length (first ∷ body) - 1) (drop 1 (first ∷ body))))) (left-of cut cuts)
-    ∙ ap (λ axes. map (target_point (map cut_seen cuts)) (points_of axes)) (left-of first body))
-    ∙ ap (λ (c : Cut). map (target_point (c ∷ map cut_seen cuts)) (points_of (first ∷ body))) (sym (ap cut_seen is))
+    target_between axis first lo hi (map cut_found cuts) region body equal
+    (ap points_of (sym (left-of axis region)) ∙ rest ∙ ap (λ cs. map (target_point (map cut_found cs)) (points_of (take (length (first ∷ body) - 1) (drop 1 (first ∷ body))))) (left-of cut cuts)
+    ∙ ap (λ axes. map (target_point (map cut_found cuts)) (points_of axes)) (left-of first body))
+    ∙ ap (λ (c : Cut). map (target_point (c ∷ map cut_found cuts)) (points_of (first ∷ body))) (sym (ap cut_found is))

@@ -5,7 +5,8 @@ ghost use Rattle.ras_domain.specs.Region.{points_of};
 ghost use Rattle.ras_eval.specs.Cells.{cells_for, each_in_order, stored_for};
 ghost use Rattle.ras_eval.specs.Computed.{deleted_writing, inserted_writing, row_stores, row_written, stores_seen};
 ghost use Rattle.ras_eval.specs.Computed.{updated_writing, writing_in_row, writing_seen_of};
-ghost use Rattle.ras_rows.specs.Plans.{cut_seen, plan_seen};
+ghost use Rattle.ras_rows.specs.Plans.{plan_seen};
+ghost use Rattle.ras_shape.specs.Cuts.{cut_found};
 ghost use Rattle.ras_rows.specs.Stops.{GivesOrStops};
 ghost use Rattle.spec_expressions.specs.Eval.{cell_at};
 ghost use Rattle.spec_expressions.specs.Tree.{tree_of};
@@ -21,7 +22,8 @@ use crate::prepared::prepared;
 use crate::purpose::Purpose;
 use crate::stops::{copy_of_region, stop_in_row};
 use ras_domain::{Interval, List};
-use ras_rows::{Cut, Plan, Stop};
+use ras_rows::{Plan, Stop};
+use ras_shape::Cut;
 use ras_store::Write;
 use ras_syntax::{CellList, CheckedForm, SetType, TypedExpr};
 use std::alloc::{AllocError, Global};
@@ -183,7 +185,7 @@ fn cells_of_body(
 /// Whether the points of a region are those of a body in the same order, each with the coordinates of
 /// the target's positions put in.
 fn is_target(cuts: &[Cut], region: &[Interval], body: &[Interval]) -> bool
-    ensures { result ≡ true → points_of region.now ≡ map (target_point (map cut_seen cuts.now)) (points_of body.now) }
+    ensures { result ≡ true → points_of region.now ≡ map (target_point (map cut_found cuts.now)) (points_of body.now) }
 {
     let [cut, others @ ..] = cuts else {
         return is_same(region, body);

@@ -1,6 +1,6 @@
 use Rattle.std.proofs.Common.{sym, ◌∙◌, pos}
 use Rattle.ras_domain.proofs.BoxTests.{same-is_same_box}
-use Rattle.ras_rows.specs.declared.cut.Cut.TheVariants.{Fixed}
+use Rattle.ras_shape.specs.declared.cuts.Cut.TheVariants.{Fixed}
 use Rattle.ras_eval.proofs.Targets.{target_none, target_position, target_trim}
 use Rattle.ras_eval.proofs.writes.+is_target.Goals as goal
 
