@@ -5,6 +5,8 @@
 #[cfg(test)]
 mod faults;
 #[cfg(test)]
+mod first_faults;
+#[cfg(test)]
 mod stands;
 #[cfg(test)]
 mod told;
