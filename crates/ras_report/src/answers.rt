@@ -10,8 +10,8 @@ use crate::values::write_rows;
 use ras_edges::{Failed, Piece, Sink, write_pieces};
 use ras_syntax::{Answer, RowList};
 
-/// An answer without its last line feed: `value` and how many rows there are, with a line for each, `done` and a number, or a
-/// fault.
+/// An answer without its last line feed: `value` and how many rows there are, with a line for each,
+/// `done` and a number, or a fault.
 pub fn write_answer<K: Sink>(sink: &mut K, answer: &Answer) -> Result<(), Failed>
     ensures { Writes K.taken K.faults sink.old sink.new result (reply_text_of (reply_of_answer answer.now)) }
 {

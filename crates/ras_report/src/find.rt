@@ -5,9 +5,10 @@ ghost use Rattle.spec_sessions.specs.Report.{answers_statement, begins, session_
 
 use ras_syntax::{Event, Script};
 
-/// The event that answers or refuses a statement of a transaction. Looking begins at the place `at` and goes on from the front
-/// where nothing is found behind it; the place of what is found is kept there. The lines of a session come in the order of their
-/// events, so all looks of a session together go through the history about once.
+/// The event that answers or refuses a statement of a transaction. Looking begins at the place `at`
+/// and goes on from the front where nothing is found behind it; the place of what is found is kept
+/// there. The lines of a session come in the order of their events, so all looks of a session
+/// together go through the history about once.
 pub(crate) fn find_answer<'a>(
     history: &'a [Event],
     at: &mut usize,

@@ -1,10 +1,9 @@
 //! How the lines of sessions are written.
-ghost use Rattle.std.specs.Prelude.{◌≡◌, codes, decimal, [], ◌∷◌, ◌++◌, flat_map, find};
+ghost use Rattle.std.specs.Prelude.{codes, decimal, [], ◌∷◌, ◌++◌, flat_map, Some};
 ghost use Rattle.std.specs.List.{concat};
 ghost use Rattle.ras_edges.specs.Sink.{Writes};
 ghost use Rattle.ras_report.specs.Once.{AreAnsweredOnce};
-ghost use Rattle.spec_sessions.specs.Report.{answers_statement, event_answer_text, line_reply_text, line_text, name_text_of, session_name, session_text};
-ghost use Rattle.std.specs.Prelude.{Some};
+ghost use Rattle.spec_sessions.specs.Report.{event_answer_text, line_reply_text, line_text, name_text_of, session_name, session_text};
 
 use crate::answers::write_answer;
 use crate::faults::write_syntax_fault;

@@ -10,9 +10,9 @@ use ras_edges::{Failed, Sink, write_whole};
 use ras_outcome::{AnswerLine, Outcome};
 use ras_syntax::{Event, Script};
 
-/// Writes the report of a run of the scripts, and takes no memory for it. No statement of a transaction may be answered or
-/// refused by two events of the outcome; so it is where the outcome is printable. Where the sink fails, it took a front of the
-/// report.
+/// Writes the report of a run of the scripts, and takes no memory for it. No statement of a
+/// transaction may be answered or refused by two events of the outcome; so it is where the outcome
+/// is printable. Where the sink fails, it took a front of the report.
 pub fn write_report<K: Sink>(
     scripts: &[Script],
     outcome: &Outcome,
