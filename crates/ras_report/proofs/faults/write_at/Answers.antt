@@ -1,0 +1,5 @@
+use Rattle.std.proofs.Common.{append_assoc, append-nil}
+use Rattle.ras_report.proofs.faults.write_at.Goals as goal
+
+pub returns : goal.returns
+returns g c = let wrote = c.write_pieces.ensures in simp (append_assoc, append-nil) (simp (append_assoc, append-nil, c.from.ensures) at wrote)

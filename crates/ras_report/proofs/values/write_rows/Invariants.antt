@@ -1,0 +1,9 @@
+use Rattle.std.proofs.Common.{take, ◌++◌}
+use Rattle.std.specs.Prelude.{codes, flat_map}
+use Rattle.ras_edges.specs.Sink.{Wrote}
+use Rattle.spec_sessions.specs.Report.{row_text_of}
+use Rattle.spec_statements.specs.Reply.{row_reply_of}
+use Rattle.ras_report.proofs.values.write_rows.Given as goal
+
+abbrev pub invariant-loop-place : goal.invariant-loop-place
+invariant-loop-place g l = Wrote g.K.Sink.taken g.K.Sink.faults l.initial.sink l.sink (flat_map (λ row. codes "\nrow " ++ row_text_of (row_reply_of row)) (take l.place l.rows))
