@@ -1,3 +1,11 @@
 pub mod Begins
+pub mod Homes
+pub mod Moves
+pub mod Names
+pub mod Paired
+pub mod Printable
 pub mod Sessions
+pub mod Values
+pub mod WideExpressions
+pub mod Widths
 pub mod Workloads

@@ -1,12 +1,13 @@
 //! The laws. `specs/` of `spec_sessions` has the words that they use.
-ghost use Rattle.std.specs.Prelude.{◌≡◌, ℕ, suc, ◌+◌, ◌*◌, ◌≤◌, List, [], ◌∷◌, ◌++◌, All, length, Ok, Some, count_by};
+ghost use Rattle.std.specs.Prelude.{◌≡◌, ℕ, suc, ◌+◌, ◌*◌, ◌≤◌, List, [], ◌∷◌, ◌++◌, All, length, reverse, Ok, Some, count_by};
 ghost use Rattle.ras_syntax.specs.declared.limits.TheConstants.{MAX_RETRIES, MAX_SESSIONS, MAX_STATEMENTS};
 ghost use Rattle.spec_grammar.specs.Tokens.{Text};
 ghost use Rattle.spec_histories.specs.History.{History};
 ghost use Rattle.spec_histories.specs.Legal.{IsLegal, is_begun};
 ghost use Rattle.spec_histories.specs.Serializable.{HasRoom};
 ghost use Rattle.spec_sessions.specs.Begins.{HasFewTries, begins_in, read_scripts};
-ghost use Rattle.spec_sessions.specs.Outcomes.{AreMadeSoFarFrom, session_events};
+ghost use Rattle.spec_sessions.specs.Outcomes.{AreMadeSoFarFrom, IsMade, OutcomeValue, session_events};
+ghost use Rattle.spec_sessions.specs.Printable.{IsPrintable};
 ghost use Rattle.spec_sessions.specs.Walk.{ReadScript, Step, Walked, walk};
 ghost use Rattle.spec_views.specs.Sessions.{IsQuiet};
 ghost use Rattle.spec_workloads.specs.Programs.{programs_of};
@@ -38,4 +39,13 @@ pub fn runs_begin_few_transactions()
         → count_by is_begun past ≤ MAX_SESSIONS * (MAX_STATEMENTS * suc MAX_RETRIES) }
     ensures room { (text : Text) (found : WorkloadValue × ℕ) (past : History) → workload_of text ≡ Ok found
         → IsLegal (programs_of found.0) past → AreMadeSoFarFrom 1 (read_scripts found.0) past → HasRoom (1 + MAX_STATEMENTS) past }
+{}
+
+/// An outcome of a text's workload that is made by walks, and whose history is legal, has a report: each of
+/// its parts has a text, each session has its lines, each statement that was answered or refused has one
+/// event and one line that tells of it, and each holder of a lock began in a session that there is.
+pub fn made_outcomes_are_printable()
+    ensures { (text : Text) (found : WorkloadValue × ℕ) (outcome : OutcomeValue) → workload_of text ≡ Ok found
+        → IsLegal (programs_of found.0) (reverse outcome.history) → IsMade (read_scripts found.0) outcome
+        → IsPrintable found.0.scripts outcome }
 {}
