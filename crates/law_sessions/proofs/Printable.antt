@@ -1,10 +1,10 @@
 -- A made outcome whose history is legal has a report.
-use Rattle.std.proofs.Common.{◌≡◌, ℕ, suc, ◌+◌, ◌-◌, ◌≤◌, Bool, true, false, not, ◌||◌, nat_le, if◌then◌else◌, List, [], ◌∷◌, ◌++◌, filter, length, reverse, Option, Some, None, Result, Ok, Err, All, refl, sym, ap, ◌∙◌, subst, arith}
+use Rattle.std.proofs.Common.{◌≡◌, ℕ, suc, ◌+◌, ◌-◌, ◌≤◌, Bool, true, false, not, ◌||◌, nat_le, if◌then◌else◌, List, [], ◌∷◌, filter, length, reverse, Option, Some, None, Result, Ok, Err, All, refl, sym, ap, ◌∙◌, subst, arith}
 use Rattle.std.specs.Prelude.{IsTrue, find, slice_get}
 use Rattle.std.specs.List.{AllByRecursion, list_any}
 use Rattle.std.proofs.lemmas.Bool.{false≢true}
-use Rattle.std.proofs.lemmas.List.{append-nil, length-map, length-reverse, reverse-append, reverse-reverse}
-use Rattle.std.proofs.lemmas.List.Elements.{All-from_recursion, filter-append}
+use Rattle.std.proofs.lemmas.List.{length-map, length-reverse, reverse-reverse}
+use Rattle.std.proofs.lemmas.List.Elements.{All-from_recursion}
 use Rattle.std.proofs.lemmas.List.Sorted.{IsPermutation-reverse, list_any-IsPermutation}
 use Rattle.ras_syntax.specs.declared.event.Event.{Event}
 use Rattle.ras_syntax.specs.declared.event.Event.TheVariants.{Begun, Granted, Refused, Answered, GaveUp, Committed, Aborted}
@@ -34,11 +34,12 @@ use Rattle.law_histories.proofs.Grants.{statement_of-fits}
 use Rattle.law_histories.proofs.Legal.{legal_good}
 use Rattle.law_histories.proofs.Runs.{run-ready}
 use Rattle.law_histories.proofs.Statements.{setting_of}
-use Rattle.law_lists.proofs.Each.{append_all, each_any, each_map, each_weaker, slice_get-All, split_all}
+use Rattle.law_lists.proofs.Each.{each_any, each_map, each_weaker, slice_get-All, split_all}
 use Rattle.law_views.proofs.Room.{nth-within}
 use Rattle.law_workloads.proofs.Programs.{workloads-are}
 use Rattle.law_sessions.proofs.Homes.{IsHomeOf, IsHomed, all-paired, homed, made-length, some_home}
 use Rattle.law_sessions.proofs.Names.{AreLockNames, needs-named, text-named}
+use Rattle.law_sessions.proofs.Turned.{each-reverse, filter-reverse}
 use Rattle.law_sessions.proofs.Values.{reply-text}
 use Rattle.law_sessions.proofs.WideExpressions.{IsBodyWide, text-wide}
 use Rattle.law_sessions.proofs.Workloads.{room-of_run}
@@ -267,23 +268,7 @@ holder-turned past (GaveUp t k) has = tt
 holder-turned past (Committed t n) has = tt
 holder-turned past (Aborted t) has = tt
 
--- ---- lists in order
-
-reverse-more : {X : Type 0} (x : X) (xs : List X) → reverse (x ∷ xs) ≡ reverse xs ++ x ∷ []
-reverse-more x xs = reverse-append (x ∷ []) xs
-
-each-reverse : {X : Type 0} (P : X → Type 0) (xs : List X) → AllByRecursion P xs → AllByRecursion P (reverse xs)
-each-reverse P [] all = tt
-each-reverse P (x ∷ xs) all = subst (AllByRecursion P) (sym (reverse-more x xs)) (append_all P (reverse xs) (x ∷ []) (each-reverse P xs all.1) (all.0, tt))
-
-filter-reverse : {X : Type 0} (p : X → Bool) (xs : List X) → filter p (reverse xs) ≡ reverse (filter p xs)
-filter-reverse p [] = refl
-filter-reverse p (x ∷ xs) =
-    ap (filter p) (reverse-more x xs) ∙ filter-append p (reverse xs) (x ∷ []) ∙ ap (λ l. l ++ filter p (x ∷ [])) (filter-reverse p xs) ∙ at (p x)
-  where
-    at : (b : Bool) → (reverse (filter p xs) ++ (if b then x ∷ [] else [])) ≡ reverse (if b then x ∷ filter p xs else filter p xs)
-    at true = sym (reverse-more x (filter p xs))
-    at false = append-nil (reverse (filter p xs))
+-- ---- in order
 
 -- two events have no pair, in whatever order
 long-unpaired : (events : List Event) (lines : List Line) → 2 ≤ length events → ArePaired events lines → ⊥
