@@ -1,3 +1,17 @@
 pub mod Begins
+pub mod Determined
+pub mod Due
+pub mod Homes
+pub mod Moves
+pub mod Names
+pub mod Paired
+pub mod PlainHistories
+pub mod Printable
+pub mod Runs
 pub mod Sessions
+pub mod Turned
+pub mod Unique
+pub mod Values
+pub mod WideExpressions
+pub mod Widths
 pub mod Workloads
