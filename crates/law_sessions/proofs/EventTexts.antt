@@ -125,10 +125,14 @@ events-code (Begun t s k) (Begun t' s' k') rest more is good good_too =
     let parts = codes "begun " ∷ decimal t ∷ codes " session " ∷ decimal s ∷ codes " statement " ∷ decimal k ∷ codes "\n" ∷ [] in
     let others = codes "begun " ∷ decimal t' ∷ codes " session " ∷ decimal s' ∷ codes " statement " ∷ decimal k' ∷ codes "\n" ∷ [] in
     let e : then_all parts rest ≡ then_all others more = sym (concat-then parts rest) ∙ is ∙ concat-then others more in
-    let s0 : (decimal t ++ (codes " session " ++ (decimal s ++ (codes " statement " ++ (decimal k ++ (codes "\n" ++ rest)))))) ≡ (decimal t' ++ (codes " session " ++ (decimal s' ++ (codes " statement " ++ (decimal k' ++ (codes "\n" ++ more)))))) = same-front (codes "begun ") _ _ e in
-    let n1 = number-code t t' (codes " session " ++ (decimal s ++ (codes " statement " ++ (decimal k ++ (codes "\n" ++ rest))))) (codes " session " ++ (decimal s' ++ (codes " statement " ++ (decimal k' ++ (codes "\n" ++ more))))) s0 good.numbers.0 good_too.numbers.0 refl refl in
-    let s2 : (decimal s ++ (codes " statement " ++ (decimal k ++ (codes "\n" ++ rest)))) ≡ (decimal s' ++ (codes " statement " ++ (decimal k' ++ (codes "\n" ++ more)))) = same-front (codes " session ") _ _ n1.1 in
-    let n3 = number-code s s' (codes " statement " ++ (decimal k ++ (codes "\n" ++ rest))) (codes " statement " ++ (decimal k' ++ (codes "\n" ++ more))) s2 good.numbers.1 good_too.numbers.1 refl refl in
+    let s0 : (decimal t ++ (codes " session " ++ (decimal s ++ (codes " statement " ++ (decimal k ++ (codes "\n" ++ rest)))))) ≡ (decimal t' ++
+    (codes " session " ++ (decimal s' ++ (codes " statement " ++ (decimal k' ++ (codes "\n" ++ more)))))) = same-front (codes "begun ") _ _ e in
+    let n1 = number-code t t' (codes " session " ++ (decimal s ++ (codes " statement " ++ (decimal k ++ (codes "\n" ++ rest))))) (codes " session " ++
+    (decimal s' ++ (codes " statement " ++ (decimal k' ++ (codes "\n" ++ more))))) s0 good.numbers.0 good_too.numbers.0 refl refl in
+    let s2 : (decimal s ++ (codes " statement " ++ (decimal k ++ (codes "\n" ++ rest)))) ≡ (decimal s' ++ (codes " statement " ++ (decimal k' ++
+    (codes "\n" ++ more)))) = same-front (codes " session ") _ _ n1.1 in
+    let n3 = number-code s s' (codes " statement " ++ (decimal k ++ (codes "\n" ++ rest))) (codes " statement " ++ (decimal k' ++
+    (codes "\n" ++ more))) s2 good.numbers.1 good_too.numbers.1 refl refl in
     let s4 : (decimal k ++ (codes "\n" ++ rest)) ≡ (decimal k' ++ (codes "\n" ++ more)) = same-front (codes " statement ") _ _ n3.1 in
     let n5 = number-code k k' (codes "\n" ++ rest) (codes "\n" ++ more) s4 good.numbers.2 good_too.numbers.2 refl refl in
     let s6 : rest ≡ more = same-front (codes "\n") _ _ n5.1 in
@@ -137,12 +141,21 @@ events-code (Granted t k p list) (Granted t' k' p' list') rest more is good good
     let parts = codes "granted " ∷ decimal t ∷ codes " " ∷ decimal k ∷ codes " phase " ∷ decimal p ∷ codes ": " ∷ join_by lock_text_of (codes ", ") list ∷ codes "\n" ∷ [] in
     let others = codes "granted " ∷ decimal t' ∷ codes " " ∷ decimal k' ∷ codes " phase " ∷ decimal p' ∷ codes ": " ∷ join_by lock_text_of (codes ", ") list' ∷ codes "\n" ∷ [] in
     let e : then_all parts rest ≡ then_all others more = sym (concat-then parts rest) ∙ is ∙ concat-then others more in
-    let s0 : (decimal t ++ (codes " " ++ (decimal k ++ (codes " phase " ++ (decimal p ++ (codes ": " ++ (join_by lock_text_of (codes ", ") list ++ (codes "\n" ++ rest)))))))) ≡ (decimal t' ++ (codes " " ++ (decimal k' ++ (codes " phase " ++ (decimal p' ++ (codes ": " ++ (join_by lock_text_of (codes ", ") list' ++ (codes "\n" ++ more)))))))) = same-front (codes "granted ") _ _ e in
-    let n1 = number-code t t' (codes " " ++ (decimal k ++ (codes " phase " ++ (decimal p ++ (codes ": " ++ (join_by lock_text_of (codes ", ") list ++ (codes "\n" ++ rest))))))) (codes " " ++ (decimal k' ++ (codes " phase " ++ (decimal p' ++ (codes ": " ++ (join_by lock_text_of (codes ", ") list' ++ (codes "\n" ++ more))))))) s0 good.numbers.0 good_too.numbers.0 refl refl in
-    let s2 : (decimal k ++ (codes " phase " ++ (decimal p ++ (codes ": " ++ (join_by lock_text_of (codes ", ") list ++ (codes "\n" ++ rest)))))) ≡ (decimal k' ++ (codes " phase " ++ (decimal p' ++ (codes ": " ++ (join_by lock_text_of (codes ", ") list' ++ (codes "\n" ++ more)))))) = same-front (codes " ") _ _ n1.1 in
-    let n3 = number-code k k' (codes " phase " ++ (decimal p ++ (codes ": " ++ (join_by lock_text_of (codes ", ") list ++ (codes "\n" ++ rest))))) (codes " phase " ++ (decimal p' ++ (codes ": " ++ (join_by lock_text_of (codes ", ") list' ++ (codes "\n" ++ more))))) s2 good.numbers.1 good_too.numbers.1 refl refl in
-    let s4 : (decimal p ++ (codes ": " ++ (join_by lock_text_of (codes ", ") list ++ (codes "\n" ++ rest)))) ≡ (decimal p' ++ (codes ": " ++ (join_by lock_text_of (codes ", ") list' ++ (codes "\n" ++ more)))) = same-front (codes " phase ") _ _ n3.1 in
-    let n5 = number-code p p' (codes ": " ++ (join_by lock_text_of (codes ", ") list ++ (codes "\n" ++ rest))) (codes ": " ++ (join_by lock_text_of (codes ", ") list' ++ (codes "\n" ++ more))) s4 good.numbers.2 good_too.numbers.2 refl refl in
+    let s0 : (decimal t ++ (codes " " ++ (decimal k ++ (codes " phase " ++ (decimal p ++ (codes ": " ++ (join_by lock_text_of (codes ", ") list ++
+    (codes "\n" ++ rest)))))))) ≡ (decimal t' ++ (codes " " ++ (decimal k' ++ (codes " phase " ++ (decimal p' ++ (codes ": " ++
+    (join_by lock_text_of (codes ", ") list' ++ (codes "\n" ++ more)))))))) = same-front (codes "granted ") _ _ e in
+    let n1 = number-code t t' (codes " " ++ (decimal k ++ (codes " phase " ++ (decimal p ++ (codes ": " ++ (join_by lock_text_of (codes ", ") list ++
+    (codes "\n" ++ rest))))))) (codes " " ++ (decimal k' ++ (codes " phase " ++ (decimal p' ++ (codes ": " ++ (join_by lock_text_of (codes ", ") list' ++
+    (codes "\n" ++ more))))))) s0 good.numbers.0 good_too.numbers.0 refl refl in
+    let s2 : (decimal k ++ (codes " phase " ++ (decimal p ++ (codes ": " ++ (join_by lock_text_of (codes ", ") list ++ (codes "\n" ++ rest)))))) ≡ (decimal k' ++
+    (codes " phase " ++ (decimal p' ++ (codes ": " ++ (join_by lock_text_of (codes ", ") list' ++ (codes "\n" ++ more)))))) = same-front (codes " ") _ _ n1.1 in
+    let n3 = number-code k k' (codes " phase " ++ (decimal p ++ (codes ": " ++ (join_by lock_text_of (codes ", ") list ++
+    (codes "\n" ++ rest))))) (codes " phase " ++ (decimal p' ++ (codes ": " ++ (join_by lock_text_of (codes ", ") list' ++
+    (codes "\n" ++ more))))) s2 good.numbers.1 good_too.numbers.1 refl refl in
+    let s4 : (decimal p ++ (codes ": " ++ (join_by lock_text_of (codes ", ") list ++ (codes "\n" ++ rest)))) ≡ (decimal p' ++ (codes ": " ++
+    (join_by lock_text_of (codes ", ") list' ++ (codes "\n" ++ more)))) = same-front (codes " phase ") _ _ n3.1 in
+    let n5 = number-code p p' (codes ": " ++ (join_by lock_text_of (codes ", ") list ++ (codes "\n" ++ rest))) (codes ": " ++
+    (join_by lock_text_of (codes ", ") list' ++ (codes "\n" ++ more))) s4 good.numbers.2 good_too.numbers.2 refl refl in
     let s6 : (join_by lock_text_of (codes ", ") list ++ (codes "\n" ++ rest)) ≡ (join_by lock_text_of (codes ", ") list' ++ (codes "\n" ++ more)) = same-front (codes ": ") _ _ n5.1 in
     let n7 = lists-code list list' rest more s6 good.has.0 good_too.has.0 (good-list list good.has.1 good.numbers.3) (good-list list' good_too.has.1 good_too.numbers.3) in
     ((λ j. Granted (n1.0 j) (n3.0 j) (n5.0 j) (n7.0 j)), n7.1)
@@ -150,14 +163,26 @@ events-code (Refused t k p name mode holder) (Refused t' k' p' name' mode' holde
     let parts = codes "refused " ∷ decimal t ∷ codes " " ∷ decimal k ∷ codes " phase " ∷ decimal p ∷ codes " " ∷ lock_text_of (name, mode) ∷ codes " holder " ∷ decimal holder ∷ codes "\n" ∷ [] in
     let others = codes "refused " ∷ decimal t' ∷ codes " " ∷ decimal k' ∷ codes " phase " ∷ decimal p' ∷ codes " " ∷ lock_text_of (name', mode') ∷ codes " holder " ∷ decimal holder' ∷ codes "\n" ∷ [] in
     let e : then_all parts rest ≡ then_all others more = sym (concat-then parts rest) ∙ is ∙ concat-then others more in
-    let s0 : (decimal t ++ (codes " " ++ (decimal k ++ (codes " phase " ++ (decimal p ++ (codes " " ++ (lock_text_of (name, mode) ++ (codes " holder " ++ (decimal holder ++ (codes "\n" ++ rest)))))))))) ≡ (decimal t' ++ (codes " " ++ (decimal k' ++ (codes " phase " ++ (decimal p' ++ (codes " " ++ (lock_text_of (name', mode') ++ (codes " holder " ++ (decimal holder' ++ (codes "\n" ++ more)))))))))) = same-front (codes "refused ") _ _ e in
-    let n1 = number-code t t' (codes " " ++ (decimal k ++ (codes " phase " ++ (decimal p ++ (codes " " ++ (lock_text_of (name, mode) ++ (codes " holder " ++ (decimal holder ++ (codes "\n" ++ rest))))))))) (codes " " ++ (decimal k' ++ (codes " phase " ++ (decimal p' ++ (codes " " ++ (lock_text_of (name', mode') ++ (codes " holder " ++ (decimal holder' ++ (codes "\n" ++ more))))))))) s0 good.numbers.0 good_too.numbers.0 refl refl in
-    let s2 : (decimal k ++ (codes " phase " ++ (decimal p ++ (codes " " ++ (lock_text_of (name, mode) ++ (codes " holder " ++ (decimal holder ++ (codes "\n" ++ rest)))))))) ≡ (decimal k' ++ (codes " phase " ++ (decimal p' ++ (codes " " ++ (lock_text_of (name', mode') ++ (codes " holder " ++ (decimal holder' ++ (codes "\n" ++ more)))))))) = same-front (codes " ") _ _ n1.1 in
-    let n3 = number-code k k' (codes " phase " ++ (decimal p ++ (codes " " ++ (lock_text_of (name, mode) ++ (codes " holder " ++ (decimal holder ++ (codes "\n" ++ rest))))))) (codes " phase " ++ (decimal p' ++ (codes " " ++ (lock_text_of (name', mode') ++ (codes " holder " ++ (decimal holder' ++ (codes "\n" ++ more))))))) s2 good.numbers.1 good_too.numbers.1 refl refl in
-    let s4 : (decimal p ++ (codes " " ++ (lock_text_of (name, mode) ++ (codes " holder " ++ (decimal holder ++ (codes "\n" ++ rest)))))) ≡ (decimal p' ++ (codes " " ++ (lock_text_of (name', mode') ++ (codes " holder " ++ (decimal holder' ++ (codes "\n" ++ more)))))) = same-front (codes " phase ") _ _ n3.1 in
-    let n5 = number-code p p' (codes " " ++ (lock_text_of (name, mode) ++ (codes " holder " ++ (decimal holder ++ (codes "\n" ++ rest))))) (codes " " ++ (lock_text_of (name', mode') ++ (codes " holder " ++ (decimal holder' ++ (codes "\n" ++ more))))) s4 good.numbers.2 good_too.numbers.2 refl refl in
-    let s6 : (lock_text_of (name, mode) ++ (codes " holder " ++ (decimal holder ++ (codes "\n" ++ rest)))) ≡ (lock_text_of (name', mode') ++ (codes " holder " ++ (decimal holder' ++ (codes "\n" ++ more)))) = same-front (codes " ") _ _ n5.1 in
-    let n7 = locks-code (name, mode) (name', mode') (codes " holder " ++ (decimal holder ++ (codes "\n" ++ rest))) (codes " holder " ++ (decimal holder' ++ (codes "\n" ++ more))) s6 (record { has = good.has; numbers = good.numbers.3 }) (record { has = good_too.has; numbers = good_too.numbers.3 }) refl refl in
+    let s0 : (decimal t ++ (codes " " ++ (decimal k ++ (codes " phase " ++ (decimal p ++ (codes " " ++ (lock_text_of (name, mode) ++ (codes " holder " ++
+    (decimal holder ++ (codes "\n" ++ rest)))))))))) ≡ (decimal t' ++ (codes " " ++ (decimal k' ++ (codes " phase " ++ (decimal p' ++ (codes " " ++
+    (lock_text_of (name', mode') ++ (codes " holder " ++ (decimal holder' ++ (codes "\n" ++ more)))))))))) = same-front (codes "refused ") _ _ e in
+    let n1 = number-code t t' (codes " " ++ (decimal k ++ (codes " phase " ++ (decimal p ++ (codes " " ++ (lock_text_of (name, mode) ++ (codes " holder " ++
+    (decimal holder ++ (codes "\n" ++ rest))))))))) (codes " " ++ (decimal k' ++ (codes " phase " ++ (decimal p' ++ (codes " " ++ (lock_text_of (name', mode') ++
+    (codes " holder " ++ (decimal holder' ++ (codes "\n" ++ more))))))))) s0 good.numbers.0 good_too.numbers.0 refl refl in
+    let s2 : (decimal k ++ (codes " phase " ++ (decimal p ++ (codes " " ++ (lock_text_of (name, mode) ++ (codes " holder " ++ (decimal holder ++
+    (codes "\n" ++ rest)))))))) ≡ (decimal k' ++ (codes " phase " ++ (decimal p' ++ (codes " " ++ (lock_text_of (name', mode') ++ (codes " holder " ++
+    (decimal holder' ++ (codes "\n" ++ more)))))))) = same-front (codes " ") _ _ n1.1 in
+    let n3 = number-code k k' (codes " phase " ++ (decimal p ++ (codes " " ++ (lock_text_of (name, mode) ++ (codes " holder " ++ (decimal holder ++
+    (codes "\n" ++ rest))))))) (codes " phase " ++ (decimal p' ++ (codes " " ++ (lock_text_of (name', mode') ++ (codes " holder " ++ (decimal holder' ++
+    (codes "\n" ++ more))))))) s2 good.numbers.1 good_too.numbers.1 refl refl in
+    let s4 : (decimal p ++ (codes " " ++ (lock_text_of (name, mode) ++ (codes " holder " ++ (decimal holder ++ (codes "\n" ++ rest)))))) ≡ (decimal p' ++
+    (codes " " ++ (lock_text_of (name', mode') ++ (codes " holder " ++ (decimal holder' ++ (codes "\n" ++ more)))))) = same-front (codes " phase ") _ _ n3.1 in
+    let n5 = number-code p p' (codes " " ++ (lock_text_of (name, mode) ++ (codes " holder " ++ (decimal holder ++ (codes "\n" ++ rest))))) (codes " " ++
+    (lock_text_of (name', mode') ++ (codes " holder " ++ (decimal holder' ++ (codes "\n" ++ more))))) s4 good.numbers.2 good_too.numbers.2 refl refl in
+    let s6 : (lock_text_of (name, mode) ++ (codes " holder " ++ (decimal holder ++ (codes "\n" ++ rest)))) ≡ (lock_text_of (name', mode') ++ (codes " holder " ++
+    (decimal holder' ++ (codes "\n" ++ more)))) = same-front (codes " ") _ _ n5.1 in
+    let n7 = locks-code (name, mode) (name', mode') (codes " holder " ++ (decimal holder ++ (codes "\n" ++ rest))) (codes " holder " ++ (decimal holder' ++
+    (codes "\n" ++ more))) s6 (record { has = good.has; numbers = good.numbers.3 }) (record { has = good_too.has; numbers = good_too.numbers.3 }) refl refl in
     let s8 : (decimal holder ++ (codes "\n" ++ rest)) ≡ (decimal holder' ++ (codes "\n" ++ more)) = same-front (codes " holder ") _ _ n7.1 in
     let n9 = number-code holder holder' (codes "\n" ++ rest) (codes "\n" ++ more) s8 good.numbers.4 good_too.numbers.4 refl refl in
     let s10 : rest ≡ more = same-front (codes "\n") _ _ n9.1 in
@@ -261,9 +286,11 @@ pub history-code : (events others : List Event) (rest more : Text) → flat_map 
     → AllByRecursion IsGoodEvent events → AllByRecursion IsGoodEvent others → (map bare_event events ≡ map bare_event others) × (rest ≡ more)
 history-code [] [] rest more is heading heading_too good good_too = (refl, is)
 history-code [] (f ∷ others) rest more is heading heading_too good good_too =
-    absurd (false≢true (sym (no_heading f (flat_map event_line others ++ more)) ∙ ap (first_is (λ b. b == 35)) (sym (append_assoc (event_line f) (flat_map event_line others) more) ∙ sym is) ∙ heading))
+    absurd (false≢true (sym (no_heading f (flat_map event_line others ++ more)) ∙ ap (first_is (λ b. b == 35)) (sym (append_assoc (event_line f)
+    (flat_map event_line others) more) ∙ sym is) ∙ heading))
 history-code (e ∷ events) [] rest more is heading heading_too good good_too =
-    absurd (false≢true (sym (no_heading e (flat_map event_line events ++ rest)) ∙ ap (first_is (λ b. b == 35)) (sym (append_assoc (event_line e) (flat_map event_line events) rest) ∙ is) ∙ heading_too))
+    absurd (false≢true (sym (no_heading e (flat_map event_line events ++ rest)) ∙ ap (first_is (λ b. b == 35)) (sym (append_assoc (event_line e)
+    (flat_map event_line events) rest) ∙ is) ∙ heading_too))
 history-code (e ∷ events) (f ∷ others) rest more is heading heading_too good good_too =
     let here = events-code e f (flat_map event_line events ++ rest) (flat_map event_line others ++ more)
     (sym (append_assoc (event_line e) (flat_map event_line events) rest) ∙ is ∙ append_assoc (event_line f) (flat_map event_line others) more) good.0 good_too.0 in

@@ -53,7 +53,8 @@ cell-word cell.IndexOut = each_passes in_word (cell_fault_word cell.IndexOut) re
 cell-word cell.NullStore = each_passes in_word (cell_fault_word cell.NullStore) refl
 
 abbrev shape_of : Text → Option ShapeFault
-shape_of text = find (λ fault. is_same (shape_fault_word fault) text) (shape.Outside ∷ shape.DomainsDiffer ∷ shape.ExtentsDiffer ∷ shape.EmptyDomain ∷ shape.BoundOut ∷ shape.ArrayTooLarge ∷ shape.ReplyTooLarge ∷ shape.TooManyTiles ∷ shape.TooManyRows ∷ shape.TooManyLocks ∷ [])
+shape_of text = find (λ fault. is_same (shape_fault_word fault) text) (shape.Outside ∷ shape.DomainsDiffer ∷ shape.ExtentsDiffer ∷ shape.EmptyDomain ∷
+    shape.BoundOut ∷ shape.ArrayTooLarge ∷ shape.ReplyTooLarge ∷ shape.TooManyTiles ∷ shape.TooManyRows ∷ shape.TooManyLocks ∷ [])
 
 shape-found : (fault : ShapeFault) → shape_of (shape_fault_word fault) ≡ Some fault
 shape-found shape.Outside = refl
@@ -83,7 +84,8 @@ shape-word shape.TooManyRows = each_passes in_word (shape_fault_word shape.TooMa
 shape-word shape.TooManyLocks = each_passes in_word (shape_fault_word shape.TooManyLocks) refl
 
 abbrev check_of : Text → Option CheckFault
-check_of text = find (λ fault. is_same (check_fault_word fault) text) (check.NoCollection ∷ check.CollectionExists ∷ check.NoType ∷ check.NoIterator ∷ check.DoubleName ∷ check.NoComponent ∷ check.TypeMismatch ∷ check.DimensionMismatch ∷ check.VariableDomain ∷ [])
+check_of text = find (λ fault. is_same (check_fault_word fault) text) (check.NoCollection ∷ check.CollectionExists ∷ check.NoType ∷ check.NoIterator ∷
+    check.DoubleName ∷ check.NoComponent ∷ check.TypeMismatch ∷ check.DimensionMismatch ∷ check.VariableDomain ∷ [])
 
 check-found : (fault : CheckFault) → check_of (check_fault_word fault) ≡ Some fault
 check-found check.NoCollection = refl
