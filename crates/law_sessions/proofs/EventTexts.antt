@@ -160,8 +160,10 @@ events-code (Granted t k p list) (Granted t' k' p' list') rest more is good good
     let n7 = lists-code list list' rest more s6 good.has.0 good_too.has.0 (good-list list good.has.1 good.numbers.3) (good-list list' good_too.has.1 good_too.numbers.3) in
     ((λ j. Granted (n1.0 j) (n3.0 j) (n5.0 j) (n7.0 j)), n7.1)
 events-code (Refused t k p name mode holder) (Refused t' k' p' name' mode' holder') rest more is good good_too =
-    let parts = codes "refused " ∷ decimal t ∷ codes " " ∷ decimal k ∷ codes " phase " ∷ decimal p ∷ codes " " ∷ lock_text_of (name, mode) ∷ codes " holder " ∷ decimal holder ∷ codes "\n" ∷ [] in
-    let others = codes "refused " ∷ decimal t' ∷ codes " " ∷ decimal k' ∷ codes " phase " ∷ decimal p' ∷ codes " " ∷ lock_text_of (name', mode') ∷ codes " holder " ∷ decimal holder' ∷ codes "\n" ∷ [] in
+    let parts = codes "refused " ∷ decimal t ∷ codes " " ∷ decimal k ∷ codes " phase " ∷ decimal p ∷ codes " " ∷ lock_text_of (name, mode) ∷
+    codes " holder " ∷ decimal holder ∷ codes "\n" ∷ [] in
+    let others = codes "refused " ∷ decimal t' ∷ codes " " ∷ decimal k' ∷ codes " phase " ∷ decimal p' ∷ codes " " ∷ lock_text_of (name', mode') ∷
+    codes " holder " ∷ decimal holder' ∷ codes "\n" ∷ [] in
     let e : then_all parts rest ≡ then_all others more = sym (concat-then parts rest) ∙ is ∙ concat-then others more in
     let s0 : (decimal t ++ (codes " " ++ (decimal k ++ (codes " phase " ++ (decimal p ++ (codes " " ++ (lock_text_of (name, mode) ++ (codes " holder " ++
     (decimal holder ++ (codes "\n" ++ rest)))))))))) ≡ (decimal t' ++ (codes " " ++ (decimal k' ++ (codes " phase " ++ (decimal p' ++ (codes " " ++
