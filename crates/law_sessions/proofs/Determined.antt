@@ -45,7 +45,7 @@ rows-plain (x ∷ xs) (y ∷ ys) is =
     let f = rows-plain xs ys later in
     λ i. e i ∷ f i
 
-answer-plain : (a b : Answer) → reply_of_answer a ≡ reply_of_answer b → plain_answer a ≡ plain_answer b
+pub answer-plain : (a b : Answer) → reply_of_answer a ≡ reply_of_answer b → plain_answer a ≡ plain_answer b
 answer-plain (answers.Value xs) (answers.Value ys) is =
     let e : map row_reply_of xs ≡ map row_reply_of ys = cc in ap answers.Value (rows-plain xs ys e)
 answer-plain (answers.Done m) (answers.Done n) is = let e : m ≡ n = cc in ap answers.Done e

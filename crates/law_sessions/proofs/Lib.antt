@@ -1,12 +1,17 @@
 pub mod Begins
+pub mod Codes
 pub mod Determined
 pub mod Due
+pub mod EventTexts
 pub mod Homes
+pub mod LineTexts
 pub mod Moves
 pub mod Names
 pub mod Paired
 pub mod PlainHistories
 pub mod Printable
+pub mod ReplyTexts
+pub mod ReportTexts
 pub mod Runs
 pub mod Sessions
 pub mod Turned

@@ -1,17 +1,21 @@
 //! The laws. `specs/` of `spec_sessions` has the words that they use.
-ghost use Rattle.std.specs.Prelude.{◌≡◌, ℕ, suc, ◌+◌, ◌*◌, ◌≤◌, List, [], ◌∷◌, ◌++◌, All, length, reverse, Ok, Some, count_by};
+ghost use Rattle.std.specs.Prelude.{◌≡◌, ℕ, suc, ◌+◌, ◌*◌, ◌≤◌, IsTrue, List, [], ◌∷◌, ◌++◌, All, length, reverse, Ok, Some, count_by};
 ghost use Rattle.ras_syntax.specs.declared.limits.TheConstants.{MAX_RETRIES, MAX_SESSIONS, MAX_STATEMENTS};
+ghost use Rattle.ras_syntax.specs.declared.types.Script.{Script};
 ghost use Rattle.spec_grammar.specs.Tokens.{Text};
 ghost use Rattle.spec_histories.specs.History.{History, Programs};
 ghost use Rattle.spec_histories.specs.Legal.{IsLegal, is_begun};
 ghost use Rattle.spec_histories.specs.Serializable.{HasRoom};
 ghost use Rattle.spec_sessions.specs.Begins.{HasFewTries, begins_in, read_scripts};
 ghost use Rattle.spec_sessions.specs.Outcomes.{AreMadeSoFarFrom, IsMade, IsPaced, OutcomeValue, session_events};
-ghost use Rattle.spec_sessions.specs.Printable.{IsGood, IsPrintable, IsUnbroken};
+ghost use Rattle.spec_sessions.specs.Printable.{IsGood, IsPrintable, IsUnbroken, blanked};
+ghost use Rattle.spec_sessions.specs.Report.{report_text};
 ghost use Rattle.spec_sessions.specs.Walk.{ReadScript, Step, Walked, walk};
 ghost use Rattle.spec_views.specs.Sessions.{IsQuiet};
+ghost use Rattle.spec_workloads.specs.Outline.{is_name};
 ghost use Rattle.spec_workloads.specs.Programs.{programs_of};
 ghost use Rattle.spec_workloads.specs.Setup.{WorkloadValue, workload_of};
+ghost use Rattle.law_sessions.specs.Numbers.{HasNumbersOfReports};
 ghost use Rattle.law_sessions.specs.Plain.{plain_outcome};
 
 /// A walk begins no more transactions than the script has statements, times the tries that a begin may
@@ -59,4 +63,13 @@ pub fn one_outcome_is_good_paced_and_unbroken()
         → IsGood programs scripts one → IsPaced schedule scripts one → IsUnbroken one
         → IsGood programs scripts other → IsPaced schedule scripts other → IsUnbroken other
         → plain_outcome one ≡ plain_outcome other }
+{}
+
+/// The report of a printable outcome determines the lines and the history, but for the answers whose lines
+/// tell of want of memory, and apart from how the lists of answers lie in memory. Sessions have names, and
+/// numbers are of 64 bits.
+pub fn a_report_determines_its_outcome()
+    ensures { (scripts : List Script) (one other : OutcomeValue) → All (λ script. IsTrue (is_name script.name)) scripts
+        → IsPrintable scripts one → IsPrintable scripts other → HasNumbersOfReports one → HasNumbersOfReports other
+        → report_text scripts one ≡ report_text scripts other → plain_outcome (blanked one) ≡ plain_outcome (blanked other) }
 {}
