@@ -12,7 +12,8 @@ use Rattle.spec_statements.specs.Effects.{outcome_of_plans, reply_in, reply_of_c
 use Rattle.spec_statements.specs.Limits.{limited_locks}
 use Rattle.spec_statements.specs.Locks.{Lock}
 use Rattle.spec_statements.specs.Machine.{checked_over, first_list, is_too_long, needs_of, reply_after_check, reply_of}
-use Rattle.spec_statements.specs.Phases.{list_or_none, needs_2, needs_3, needs_4, passing_rows, phase_2_list, phase_3_list, phase_4_list, shaped_condition, until_bodies, until_condition, until_passing, until_plans, until_rows}
+use Rattle.spec_statements.specs.Phases.{list_or_none, needs_2, needs_3, needs_4, passing_rows, phase_2_list, phase_3_list, phase_4_list}
+use Rattle.spec_statements.specs.Phases.{shaped_condition, until_bodies, until_condition, until_passing, until_plans, until_rows}
 use Rattle.spec_statements.specs.Plans.{Plan}
 use Rattle.spec_statements.specs.Reply.{Reply, misfit, reply_of_answer}
 use Rattle.spec_statements.specs.Rows.{Row, sources_of, where_of}

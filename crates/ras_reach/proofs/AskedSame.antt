@@ -22,7 +22,8 @@ use Rattle.spec_statements.specs.Agree.{Agrees}
 use Rattle.spec_statements.specs.Limits.{limited_locks, whole_text}
 use Rattle.spec_statements.specs.Locks.{Lock, lock_list}
 use Rattle.spec_statements.specs.Machine.{first_list, is_too_long, needs_of}
-use Rattle.spec_statements.specs.Phases.{domain_locks, first_failing, list_or_none, needs_2, needs_3, needs_4, passing_rows, phase_2_list, phase_3_list, phase_4_list, shaped_condition, until_bodies, until_condition, until_domains, until_passing, until_plans, until_rows}
+use Rattle.spec_statements.specs.Phases.{domain_locks, first_failing, list_or_none, needs_2, needs_3, needs_4, passing_rows, phase_2_list, phase_3_list}
+use Rattle.spec_statements.specs.Phases.{phase_4_list, shaped_condition, until_bodies, until_condition, until_domains, until_passing, until_plans, until_rows}
 use Rattle.spec_statements.specs.Plans.{Plan, misfit_in}
 use Rattle.spec_statements.specs.ReachLaw.{AreNamedIn}
 use Rattle.spec_statements.specs.Reply.{Reply, values, done, faulty, misfit, unchecked}
