@@ -1,26 +1,15 @@
 -- What the forms that are written as an index or a part are, by what their operands are.
-use Rattle.std.proofs.Common.{◌≡◌, ℤ, List, [], ◌∷◌, ◌++◌, map, Option, Some, None, Bool, true, false, refl, sym, ap, ◌∙◌, length, ◌≢◌}
-use Rattle.std.specs.Prelude.{pos, slice_get, if◌then◌else◌, codes, unsigned_abs, Result, Ok, Err}
-use Rattle.std.proofs.lemmas.List.{append-nil}
-use Rattle.ras_cells.specs.Outcomes.{◌>>=◌}
-use Rattle.ras_domain.specs.declared.region.Interval.{Interval}
-use Rattle.ras_domain.specs.Boxes.{meet_of}
+use Rattle.std.proofs.Common.{◌≡◌, true, false, refl}
+use Rattle.std.specs.Prelude.{if◌then◌else◌, codes}
 use Rattle.ras_syntax.specs.declared.span.Span.{Span}
 use Rattle.ras_syntax.specs.declared.expr.Part.{Part}
 use Rattle.ras_syntax.specs.declared.expr.Part.TheVariants as parts
 use Rattle.ras_syntax.specs.declared.typed.Kind.{Kind}
-use Rattle.ras_syntax.specs.declared.typed.TypedExpr.{TypedExpr}
-use Rattle.ras_syntax.specs.declared.typed.TypedForm.{TypedForm, fold-TypedForm}
-use Rattle.ras_syntax.specs.declared.typed.TypedDomain.{TypedDomain}
-use Rattle.ras_syntax.specs.declared.typed.TypedAxis.{TypedAxis, map-TypedAxis, out-TypedAxis, fold_out-TypedAxis}
-use Rattle.ras_syntax.specs.declared.typed.TypedAxis.TheOpen.{TypedAxis-F}
-use Rattle.spec_expressions.specs.Check.{tree_of_axes}
-use Rattle.spec_expressions.specs.Tree.{Domain, tree_of, axis_tree_step, domain_tree_step, form_tree_step, expr_tree_step, NameOf, Tree, Form, Axes, lower, upper, node, variable}
-use Rattle.spec_expressions.specs.Tree.{number, domain_of, interval_of, bound_of, component, index, at_point, coordinate, no_axes, position, trim, index_form, part_form}
+use Rattle.spec_expressions.specs.Tree.{Tree, Axes, lower, upper, node, variable}
+use Rattle.spec_expressions.specs.Tree.{number, domain_of, interval_of, bound_of, no_axes, position, index_form, part_form}
 use Rattle.spec_expressions.specs.Tree.{is_same_name}
-use Rattle.ras_reach.specs.declared.forms.PartForm.TheVariants.{Component, Lower, Upper}
 use Rattle.ras_shape.specs.Ways.{has_one_position, is_axis_of_domain}
-use Rattle.ras_reach.specs.Forms.{head_of_node, other_head, head_between, seen_coordinate, seen_axis, seen_at_point, seen_cells, index_told, axis_in_index}
+use Rattle.ras_reach.specs.Forms.{head_of_node, other_head, head_between, seen_cells, index_told, axis_in_index}
 
 -- ---- heads and axes
 

@@ -1,3 +1,5 @@
+pub mod AskedReplies
+pub mod AskedSame
 pub mod AxesRead
 pub mod DomainsSeen
 pub mod FirstLocks
@@ -10,6 +12,7 @@ pub mod PhasesSeen
 pub mod Placing
 pub mod RowFirst
 pub mod RowLoops
+pub mod RowsTold
 pub mod StaticsSeen
 pub mod TileLoops
 pub mod TreesRead

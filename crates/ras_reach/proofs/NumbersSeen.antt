@@ -1,7 +1,6 @@
 -- The bound of an index and of a part.
-use Rattle.std.proofs.Common.{◌≡◌, ℤ, List, true, false, refl, ap}
+use Rattle.std.proofs.Common.{◌≡◌, List, true, false, refl, ap}
 use Rattle.std.specs.Prelude.{if◌then◌else◌, codes}
-use Rattle.ras_syntax.specs.declared.span.Span.{Span}
 use Rattle.ras_syntax.specs.declared.expr.Part.{Part}
 use Rattle.ras_syntax.specs.declared.expr.Part.TheVariants as parts
 use Rattle.ras_syntax.specs.declared.typed.Kind.{Kind}
@@ -10,7 +9,7 @@ use Rattle.spec_expressions.specs.Reach.{Boxes, form_bound, number_alone}
 use Rattle.spec_expressions.specs.Shape.{Box, shape_of}
 use Rattle.spec_expressions.specs.Tree.{Tree, Axes, node, variable, number, domain_of, interval_of, bound_of, lower, upper, no_axes, position, index_form, part_form, is_same_name}
 use Rattle.ras_shape.specs.Ways.{is_axis_of_domain}
-use Rattle.ras_reach.specs.declared.forms.PartForm.TheVariants.{Component, Lower, Upper}
+use Rattle.ras_reach.specs.declared.forms.PartForm.TheVariants.{Lower, Upper}
 use Rattle.ras_reach.specs.Forms.{index_told, part_told}
 use Rattle.ras_reach.specs.Numbers.{index_bound_of, part_bound_of}
 use Rattle.ras_reach.proofs.StaticsSeen.{bound_first}

@@ -1,7 +1,6 @@
 -- What an index and a part come to, from what the code finds of their operands.
-use Rattle.std.proofs.Common.{◌≡◌, ℤ, List, Option, Result, Ok, Err, sym, ap, ◌∙◌}
+use Rattle.std.proofs.Common.{◌≡◌, List, Option, Result, Ok, Err, sym, ap, ◌∙◌}
 use Rattle.std.specs.Prelude.{IfOk}
-use Rattle.ras_cells.specs.declared.cell.CellFault.{CellFault}
 use Rattle.ras_domain.specs.declared.region.Interval.{Interval}
 use Rattle.ras_syntax.specs.declared.expr.Part.{Part}
 use Rattle.ras_syntax.specs.declared.typed.TypedAxis.{TypedAxis}

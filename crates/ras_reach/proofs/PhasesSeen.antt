@@ -1,5 +1,5 @@
 -- What follows for a phase from what comes before it.
-use Rattle.std.proofs.Common.{◌≡◌, ℕ, List, [], ◌∷◌, Result, Ok, Err, refl, sym, ap, ◌∙◌}
+use Rattle.std.proofs.Common.{◌≡◌, ℕ, List, [], ◌∷◌, Result, Ok, refl, sym, ap, ◌∙◌}
 use Rattle.std.specs.Prelude.{flat_map}
 use Rattle.ras_cells.specs.Outcomes.{◌>>=◌}
 use Rattle.ras_rows.specs.declared.stop.Stop.{Stop}
@@ -11,8 +11,8 @@ use Rattle.spec_statements.specs.Locks.{Lock, lock_list}
 use Rattle.spec_statements.specs.Phases.{condition_tiles}
 use Rattle.spec_statements.specs.Reply.{Reply}
 use Rattle.spec_statements.specs.Rows.{Row}
-use Rattle.ras_reach.specs.declared.needs.NeedsFault.{NeedsFault}
-use Rattle.ras_reach.specs.declared.needs.NeedsFault.TheVariants as faults
+use Rattle.ras_reach.specs.declared.first.NeedsFault.{NeedsFault}
+use Rattle.ras_reach.specs.declared.first.NeedsFault.TheVariants as faults
 use Rattle.ras_reach.specs.Needs.{GivesLocks, StopsAsNeeds, fault_of_stop, limited_to}
 
 pub no_condition : (sources : List CheckedSource) (rows : List (ℕ × Row)) → flat_map (condition_tiles sources always) rows ≡ []

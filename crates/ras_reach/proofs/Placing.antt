@@ -2,7 +2,6 @@
 use Rattle.std.proofs.Common.{◌≡◌, ℕ, List, [], ◌∷◌, ◌++◌, map, Vec, Global, sym, ap, ◌∙◌, append_assoc}
 use Rattle.std.proofs.lemmas.List.{map-append}
 use Rattle.ras_domain.specs.declared.region.Interval.{Interval}
-use Rattle.spec_expressions.specs.Shape.{Box}
 use Rattle.ras_reach.specs.Moved.{boxes_held}
 
 -- one more box stands at the end

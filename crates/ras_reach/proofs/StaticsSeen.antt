@@ -1,10 +1,9 @@
 -- Values, bounds and offsets of the definitions are those that the code finds.
 use Rattle.std.proofs.Common.{◌≡◌, ℕ, ℤ, ◌+◌, ◌<◌, ◌≤◌, List, [], ◌∷◌, ◌++◌, length, map, drop, get_or, Bool, true, false, Option, Some, None, Result, Ok, Err, refl, sym, ap, ◌∙◌, append_assoc}
-use Rattle.std.specs.Prelude.{◌&&◌, ◌||◌, not, int_lt, if◌then◌else◌, slice_get, is_ok, unsigned_abs, codes}
+use Rattle.std.specs.Prelude.{◌&&◌, ◌||◌, not, int_lt, if◌then◌else◌, slice_get, is_ok, codes}
 use Rattle.std.specs.Result.{result_ok}
 use Rattle.std.specs.List.{list_any}
 use Rattle.std.proofs.lemmas.List.{at_drop_more, at_drop_all, append-nil}
-use Rattle.ras_cells.specs.declared.cell.CellFault.{CellFault}
 use Rattle.ras_cells.specs.declared.cell.CellFault.TheVariants.{Overflow}
 use Rattle.ras_cells.specs.Outcomes.{◌>>=◌}
 use Rattle.ras_domain.specs.declared.region.Interval.{Interval}
@@ -14,15 +13,15 @@ use Rattle.ras_syntax.specs.declared.expr.Part.{Part}
 use Rattle.ras_syntax.specs.declared.expr.Part.TheVariants as parts
 use Rattle.ras_syntax.specs.declared.typed.Kind.{Kind}
 use Rattle.ras_syntax.specs.declared.typed.TypedExpr.{TypedExpr}
-use Rattle.spec_expressions.specs.Tree.{Side, Tree, Axes, index_form, lower, upper, node, tree_of, bounds, bound_of, interval_of, component, part_form, bound_named, is_same_name}
+use Rattle.spec_expressions.specs.Tree.{Side, Tree, Axes, index_form, lower, upper, node, tree_of, bounds, bound_of, interval_of, part_form, is_same_name}
 use Rattle.spec_expressions.specs.Eval.{axes_in, box_in, numbers_or_none, offsets_in, written_in}
 use Rattle.spec_expressions.specs.Shape.{Box, Shape, ShapeMisfit, Bound, box, box_of, bounds_of, broken, between, cut_of, Cut, interval_at, interval_list, is_broken, is_empty_cut}
-use Rattle.spec_expressions.specs.Shape.{is_small, kept_axes, literal, offsets_of, shape_of, side_of, side_of_shape, static_form, static_of, trim_cut, values_of, with_value}
+use Rattle.spec_expressions.specs.Shape.{is_small, kept_axes, literal, offsets_of, shape_of, side_of, side_of_shape, static_form, static_of, values_of, with_value}
 use Rattle.spec_expressions.specs.Shape.{written_box, written_of}
 use Rattle.ras_shape.specs.Trees.{pairs_seen, trees_seen}
 use Rattle.ras_shape.specs.Ways.{is_axis_of_domain}
 use Rattle.ras_shape.proofs.Indexing.{index-value}
-use Rattle.ras_reach.specs.declared.forms.PartForm.TheVariants.{Component, Lower, Upper}
+use Rattle.ras_reach.specs.declared.forms.PartForm.TheVariants.{Lower, Upper}
 use Rattle.ras_reach.specs.Forms.{part_told}
 use Rattle.ras_reach.specs.Statics.{all_found, all_found_after, interval_between, interval_found, found_or_none, number_found, part_value_of, with_found}
 

@@ -7,7 +7,7 @@ use Rattle.spec_expressions.specs.Check.{tree_of_axes}
 use Rattle.spec_expressions.specs.Tree.{tree_of}
 use Rattle.ras_shape.specs.Ways.{is_axis_of_domain}
 use Rattle.ras_shape.proofs.TreesSeen.{node_Index}
-use Rattle.ras_reach.specs.Forms.{HeadSeen, other_head, head_of_node, IndexSeen, axis_in_index, index_told}
+use Rattle.ras_reach.specs.Forms.{other_head, head_of_node, IndexSeen, axis_in_index, index_told}
 use Rattle.ras_reach.proofs.FormsSeen.{index_head, index_axis}
 
 pub index_is_other : (x e : TypedExpr) (axes : List TypedAxis) → (out-TypedExpr x).form ≡ typed.Index e axes → other_head ≡ head_of_node (tree_of x)

@@ -1,13 +1,11 @@
 -- What the walk collects for an expression, from what it collects for its parts.
-use Rattle.std.proofs.Common.{◌≡◌, List, [], ◌∷◌, ◌++◌, Bool, true, false, Option, Some, None, Result, Ok, Err, refl, sym, ap, ◌∙◌, append_assoc}
+use Rattle.std.proofs.Common.{◌≡◌, List, [], ◌++◌, true, false, Option, Some, None, Result, Ok, Err, refl, sym, ap, ◌∙◌, append_assoc}
 use Rattle.std.specs.Prelude.{OnOk, codes, if◌then◌else◌}
 use Rattle.std.proofs.lemmas.List.{append-nil}
 use Rattle.ras_domain.specs.Boxes.{meet_of}
 use Rattle.ras_syntax.specs.declared.expr.Part.{Part}
 use Rattle.ras_syntax.specs.declared.expr.Part.TheVariants as parts
-use Rattle.ras_syntax.specs.declared.typed.TypedAxis.{TypedAxis}
 use Rattle.ras_syntax.specs.declared.typed.TypedExpr.{TypedExpr}
-use Rattle.spec_expressions.specs.Check.{tree_of_axes}
 use Rattle.spec_expressions.specs.Eval.{box_in}
 use Rattle.spec_expressions.specs.Reach.{Boxes, Reached, form_reach, positions_reach, reach_of}
 use Rattle.spec_expressions.specs.Shape.{Box, shape_of}

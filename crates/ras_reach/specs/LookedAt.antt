@@ -1,5 +1,5 @@
 -- Where the parts of an expression are looked at.
-use Rattle.std.specs.Prelude.{if◌then◌else◌, List, [], ◌∷◌, Option, Some, None, Result, Ok, Err}
+use Rattle.std.specs.Prelude.{if◌then◌else◌, List, [], Option, Some, None, Result, Ok, Err}
 use Rattle.std.specs.List.{list_any}
 use Rattle.ras_domain.specs.Boxes.{meet_of}
 use Rattle.ras_domain.specs.Region.{is_empty}

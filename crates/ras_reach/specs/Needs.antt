@@ -8,8 +8,8 @@ use Rattle.ras_syntax.specs.declared.statement.Statement.{Statement}
 use Rattle.spec_statements.specs.Locks.{Lock}
 use Rattle.spec_statements.specs.Machine.{first_list}
 use Rattle.spec_statements.specs.Reply.{Reply, misfit, reply_of_answer}
-use Rattle.ras_reach.specs.declared.needs.NeedsFault.{NeedsFault}
-use Rattle.ras_reach.specs.declared.needs.NeedsFault.TheVariants.{Answer, Memory}
+use Rattle.ras_reach.specs.declared.first.NeedsFault.{NeedsFault}
+use Rattle.ras_reach.specs.declared.first.NeedsFault.TheVariants.{Answer, Memory}
 
 -- a list that isn't too long, for a statement of this length
 abbrev pub limited_to : ℕ → List Lock → Result (List Lock) Reply

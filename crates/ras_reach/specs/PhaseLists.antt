@@ -1,5 +1,5 @@
 -- What a checked statement asks for in its later phases, or the answer that comes in its place.
-use Rattle.std.specs.Prelude.{ℕ, List, Result, Ok}
+use Rattle.std.specs.Prelude.{ℕ, List, Result}
 use Rattle.ras_cells.specs.Outcomes.{◌>>=◌}
 use Rattle.ras_rows.specs.Plans.{planned}
 use Rattle.spec_expressions.specs.Database.{Database}

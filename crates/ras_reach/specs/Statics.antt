@@ -1,5 +1,5 @@
 -- Values of static expressions, written bounds and offsets, as the code finds them.
-use Rattle.std.specs.Prelude.{ℤ, Bool, not, ◌&&◌, int_lt, if◌then◌else◌, List, [], ◌∷◌, ◌++◌, Option, Some, None, Result, Ok, Err, is_ok, slice_get}
+use Rattle.std.specs.Prelude.{ℤ, not, ◌&&◌, int_lt, if◌then◌else◌, List, [], ◌∷◌, ◌++◌, Option, Some, None, Err, is_ok, slice_get}
 use Rattle.std.specs.Result.{result_ok}
 use Rattle.ras_cells.specs.declared.cell.CellFault.TheVariants.{Overflow}
 use Rattle.ras_domain.specs.declared.region.Interval.{Interval}

@@ -2,12 +2,13 @@
 #![tactic(auto)]
 
 mod boxes;
+mod calls;
+mod first;
 mod forms;
 mod intervals;
 mod keys;
 mod locks;
 mod moves;
-mod needs;
 mod numbers;
 mod phases;
 mod reached;
@@ -18,6 +19,7 @@ mod variables;
 mod walk;
 mod writes;
 
-pub use needs::{NeedsFault, first_needs};
+pub use calls::needs;
+pub use first::{NeedsFault, first_needs};
 pub use phases::{body_needs, condition_needs, domain_needs};
 pub use reached::{ReachedBox, reach};

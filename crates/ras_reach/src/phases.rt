@@ -14,8 +14,8 @@ ghost use Rattle.spec_statements.specs.Phases.{condition_tiles, domain_locks, pl
 ghost use Rattle.spec_statements.specs.Rows.{sources_of, where_of};
 ghost use Rattle.spec_statements.specs.Statement.{request_of, statement_tree_of};
 
+use crate::first::{NeedsFault, limited};
 use crate::locks::LockSet;
-use crate::needs::{NeedsFault, limited};
 use crate::reads::{put_domains, put_read};
 use crate::writes::put_write;
 use ras_domain::LockList;

@@ -1,4 +1,4 @@
-use Rattle.std.proofs.Common.{◌-◌, length, map, arith}
+use Rattle.std.proofs.Common.{length, map, arith}
 use Rattle.std.specs.Prelude.{flat_map}
 use Rattle.ras_rows.specs.declared.plan.Plan.{Plan}
 use Rattle.ras_rows.specs.Plans.{plan_seen}

@@ -1,5 +1,4 @@
 use Rattle.std.proofs.Common.{◌≡◌, ◌-◌, length, take, drop, ap, ◌∙◌}
-use Rattle.ras_domain.specs.declared.lock.LockName.{LockName}
 use Rattle.ras_domain.specs.declared.lock.LockName.TheVariants.{Domain}
 use Rattle.ras_domain.specs.declared.lock.Mode.TheVariants.{Shared}
 use Rattle.spec_statements.specs.Locks.{with_lock}

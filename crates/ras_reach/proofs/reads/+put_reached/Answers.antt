@@ -1,4 +1,4 @@
-use Rattle.std.proofs.Common.{◌≡◌, ◌-◌, length, take, drop}
+use Rattle.std.proofs.Common.{◌-◌, length, take, drop}
 use Rattle.std.specs.Prelude.{flat_map}
 use Rattle.spec_statements.specs.Phases.{reached_tiles}
 use Rattle.ras_reach.specs.Reached.{box_reached, boxes_reached}

@@ -1,13 +1,8 @@
-use Rattle.std.proofs.Common.{sym, ap, ◌∙◌, List}
-use Rattle.ras_syntax.specs.declared.typed.TypedExpr.{TypedExpr}
+use Rattle.std.proofs.Common.{sym, ap, ◌∙◌}
 use Rattle.spec_expressions.specs.Check.{tree_of_axes}
-use Rattle.spec_expressions.specs.Eval.{box_in}
-use Rattle.spec_expressions.specs.Shape.{shape_of, static_of}
+use Rattle.spec_expressions.specs.Shape.{static_of}
 use Rattle.spec_expressions.specs.Tree.{tree_of}
-use Rattle.ras_shape.specs.Ways.{is_axis_of_domain}
-use Rattle.ras_shape.proofs.TreesSeen.{node_Index, node_Part}
-use Rattle.ras_reach.specs.Forms.{part_told}
-use Rattle.ras_reach.specs.Statics.{part_value_of}
+use Rattle.ras_shape.proofs.TreesSeen.{node_Index}
 use Rattle.ras_reach.proofs.PartsRead.{value_of_part}
 use Rattle.ras_reach.proofs.StaticsSeen.{index_static}
 use Rattle.ras_reach.proofs.statics.+value_of.Goals as goal

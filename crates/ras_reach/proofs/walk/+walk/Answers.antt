@@ -1,8 +1,7 @@
-use Rattle.std.proofs.Common.{◌≡◌, ◌++◌, ◌∷◌, [], map, refl, sym, ap, ◌∙◌, Some, None}
+use Rattle.std.proofs.Common.{◌++◌, ◌∷◌, [], map, refl, sym, ap, ◌∙◌, Some, None}
 use Rattle.std.specs.Prelude.{neg_ℤ, option_map, unsigned_abs}
 use Rattle.std.proofs.lemmas.List.{append-nil}
 use Rattle.ras_domain.specs.Boxes.{shifted_by}
-use Rattle.ras_syntax.specs.declared.typed.TypedExpr.{TypedExpr}
 use Rattle.spec_expressions.specs.Check.{tree_of_axes}
 use Rattle.spec_expressions.specs.Eval.{axes_in, box_in, boxes_in, offsets_in, written_in}
 use Rattle.spec_expressions.specs.Reach.{condition_reach, pairs_reach, parts_reach, positions_reach, reach_of, trees_reach}
@@ -13,7 +12,6 @@ use Rattle.ras_shape.specs.Trees.{axis_seen, domain_looked_at, pairs_seen, trees
 use Rattle.ras_shape.proofs.TreesSeen.{node_Bool, node_Number, node_Iterator, node_Variable, node_Unary, node_Cast, node_Binary, node_Index, node_Part, node_Case, node_Build}
 use Rattle.ras_shape.proofs.TreesSeen.{node_Marray, node_Condense, node_Cells, node_Shift, node_Extend, node_Concat, node_Sdom, node_Oid}
 use Rattle.ras_reach.specs.declared.forms.PartForm.TheVariants.{Component, Lower, Upper}
-use Rattle.ras_reach.specs.Moved.{boxes_held}
 use Rattle.ras_reach.specs.Reached.{boxes_reached}
 use Rattle.ras_reach.specs.Variables.{variable_boxes}
 use Rattle.ras_shape.proofs.AxesSeen.{axis_at, axis_trim}

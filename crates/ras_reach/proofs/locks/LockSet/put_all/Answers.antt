@@ -1,4 +1,4 @@
-use Rattle.std.proofs.Common.{◌≡◌, ◌++◌, ◌∷◌, [], ap, ◌∙◌}
+use Rattle.std.proofs.Common.{◌≡◌, ◌++◌, ◌∷◌, []}
 use Rattle.ras_reach.specs.Keys.{put_before}
 use Rattle.ras_reach.proofs.KeyOrder.{put_turn}
 use Rattle.ras_reach.proofs.locks.LockSet.put_all.Goals as goal

@@ -3,7 +3,7 @@ ghost use Rattle.std.specs.Prelude.{◌≡◌, ◌∷◌, [], map, IfOk};
 ghost use Rattle.ras_domain.specs.declared.lock.LockName.TheVariants.{Collection};
 ghost use Rattle.ras_domain.specs.declared.lock.Mode.TheVariants.{Shared};
 ghost use Rattle.ras_reach.specs.Needs.{GivesLocks, fault_of_stop, first_asked, limited_to};
-ghost use Rattle.ras_reach.specs.declared.needs.NeedsFault.TheVariants.{Memory};
+ghost use Rattle.ras_reach.specs.declared.first.NeedsFault.TheVariants.{Memory};
 ghost use Rattle.spec_statements.specs.Machine.{read_lock, wanted_at_first};
 
 use crate::locks::lock_list;
