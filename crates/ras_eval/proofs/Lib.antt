@@ -9,3 +9,4 @@ pub mod CellFor
 pub mod ShownRows
 pub mod SeenRows
 pub mod SeenValues
+pub mod RowPrepared

@@ -6,20 +6,21 @@ ghost use Rattle.spec_expressions.specs.Tree.{tree_of};
 ghost use Rattle.spec_statements.specs.Rows.{environment_of};
 
 use crate::arrays::RowArrays;
+use ras_rows::domains_of;
 use ras_syntax::TypedExpr;
-use ras_values::Node;
+use ras_values::{Node, prepare};
+use sqlite_items::Boxed;
 use std::alloc::{AllocError, Global};
 
-// until prepare() lands
-/// The expression prepared for a row.
+/// The expression prepared for a row. The error is want of memory.
+#[tactic(auto, using(crate::proofs::RowPrepared::prepared_for_row))]
 pub(crate) fn prepared(
-    _alloc: Global,
+    alloc: Global,
     e: &TypedExpr,
     row: &RowArrays<'_, '_>,
-) -> Result<Node, AllocError>
+) -> Result<Boxed<Node>, AllocError>
     ensures { IfOk result (λ node. cells_of_node node row.now.arrays.now [] ≡ cell_at (environment_of row.now.arrays.now) (tree_of e.now)) }
 {
-    let _arrays = row.arrays.len();
-    let _span = e.span;
-    Err(AllocError)
+    let domains = domains_of(alloc, row.arrays)?;
+    prepare(alloc, e, row, domains.as_slice())
 }

@@ -1,6 +1,6 @@
 //! The locks that a row asks for: on the domains of its arrays, and on the tiles that an expression
 //! reads in it.
-ghost use Rattle.std.specs.Prelude.{◌≡◌, ◌++◌, ℕ, flat_map, map, slice_get, IfOk, OnOk};
+ghost use Rattle.std.specs.Prelude.{◌≡◌, ℕ, flat_map, slice_get, IfOk, OnOk};
 ghost use Rattle.std.specs.Option.{option_copied};
 ghost use Rattle.ras_domain.specs.declared.lock.LockName.TheVariants.{Domain};
 ghost use Rattle.spec_statements.specs.Phases.{domain_locks, read_tiles, reached_tiles};
@@ -12,8 +12,8 @@ use crate::locks::LockSet;
 use crate::reached::{ReachedBox, reach};
 use crate::statics::box_of;
 use crate::tiles::{put_tiles, tiles_met};
-use ras_domain::{LockName, Mode, Region};
-use ras_rows::ShownArray;
+use ras_domain::{LockName, Mode};
+use ras_rows::{ShownArray, domains_of};
 use ras_syntax::{CheckedSource, TypedExpr};
 use std::alloc::{AllocError, Global};
 
@@ -56,33 +56,10 @@ pub(crate) fn put_read(
 ) -> Result<(), AllocError>
     ensures { (number : ℕ) → OnOk result (set.new ≡ put_before (read_tiles sources.now (tree_of e.now) (number, row.now)) set.old) }
 {
-    let mut domains = Vec::new(alloc);
-    push_domains(row, &mut domains)?;
+    let domains = domains_of(alloc, row)?;
     let around = box_of(alloc, e, &domains)?;
     let reached = reach(alloc, e, &domains, &around)?;
     put_reached(alloc, sources, row, &reached, set)
-}
-
-/// Puts the domains of a row's arrays at the end. The error is want of memory.
-fn push_domains(row: &[ShownArray<'_>], domains: &mut Vec<Region>) -> Result<(), AllocError>
-    ensures { OnOk result (domains.new.items ≡ domains.old.items ++ map (λ member. member.array.domain) row.now) }
-{
-    let [array, row @ ..] = row else {
-        return Ok(());
-    };
-    domains.push(region_of(array)?)?;
-    push_domains(row, domains)
-}
-
-/// The domain of an array, for keeps. The error stands for a domain that is no region, which no array
-/// has.
-fn region_of(array: &ShownArray<'_>) -> Result<Region, AllocError>
-    ensures { IfOk result (λ region. region ≡ array.now.array.domain) }
-{
-    match Region::new(array.domain().axes()) {
-        Ok(region) => Ok(region),
-        Err(_) => Err(AllocError),
-    }
 }
 
 /// Puts shared locks on the tiles that boxes meet in a row among the others. The error is want of

@@ -14,7 +14,7 @@ mod stop;
 mod writing;
 
 pub use array::ShownArray;
-pub use plan::{Plan, plan_row};
+pub use plan::{Plan, domains_of, plan_row};
 pub use plans::plan_rows;
 pub use rows::{Rows, row_of};
 pub use shaped::shape_condition;

@@ -198,7 +198,7 @@ fn update_part<'a>(
 }
 
 /// The domains of a row's arrays.
-pub(crate) fn domains_of(alloc: Global, row: &[ShownArray<'_>]) -> Result<Vec<Region>, AllocError>
+pub fn domains_of(alloc: Global, row: &[ShownArray<'_>]) -> Result<Vec<Region>, AllocError>
     ensures { IfOk result (λ domains. domains.items ≡ map (λ member. member.array.domain) row.now) }
 {
     let mut domains = Vec::new(alloc);

@@ -1,5 +1,0 @@
-use Rattle.std.proofs.Common.{length}
-use Rattle.ras_reach.proofs.reads.+push_domains.Given as goal
-
-abbrev pub decreases-push_domains : goal.decreases-push_domains
-decreases-push_domains l = length l.row.now
