@@ -1,7 +1,13 @@
 pub mod Folds
 pub mod Moving
 pub mod NodesSeen
+pub mod PreparedArms
+pub mod PreparedForms
+pub mod Scopes
+pub mod StaticForms
 pub mod Tallied
 pub mod WalkArms
 pub mod WalkLoops
+pub mod WaysSeen
 pub mod Within
+pub mod Written

@@ -186,11 +186,11 @@ module _ (row : List Member) (points : List (List ℤ)) where
   point_kept q more c positions p next =
       point-turn q (Some c) (positions_by positions row points p) ∙ ap (λ q. point_with q (positions_by positions row points p)) (sym next)
 
-position-At : (e : Node) → position_cells (ps.At e) ≡ Some (cells_of_node e)
-position-At e = ap position_cells (sym (ps.rolls-At e)) ∙ fold-roll-Position NodeCells (Option NodeCells) PartCells node_step position_step part_step (Position-F.At e)
+pub position_at : (e : Node) → position_cells (ps.At e) ≡ Some (cells_of_node e)
+position_at e = ap position_cells (sym (ps.rolls-At e)) ∙ fold-roll-Position NodeCells (Option NodeCells) PartCells node_step position_step part_step (Position-F.At e)
 
-position-Kept : position_cells ps.Kept ≡ None
-position-Kept = ap position_cells (sym ps.rolls-Kept) ∙ fold-roll-Position NodeCells (Option NodeCells) PartCells node_step position_step part_step Position-F.Kept
+pub position_kept : position_cells ps.Kept ≡ None
+position_kept = ap position_cells (sym ps.rolls-Kept) ∙ fold-roll-Position NodeCells (Option NodeCells) PartCells node_step position_step part_step Position-F.Kept
 
 module _ (row : List Member) (points : List (List ℤ)) where
   position-here : (positions : List Position) (i : ℕ) (x y : Position) (layer : Option NodeCells) (left : List ℤ) → i < length positions → x ≡ get_or positions i x → x ≡ y → position_cells y ≡ layer
@@ -205,14 +205,14 @@ module _ (row : List Member) (points : List (List ℤ)) where
       → total ≡ point_with q (positions_by (map position_cells (drop i positions)) row points left)
       → total ≡ point_with more (positions_by (map position_cells (drop (i + 1) positions)) row points left)
   number_next positions i x e q more v left total within is form cell next so_far =
-      so_far ∙ ap (point_with q) (position-here positions i x (ps.At e) (Some (cells_of_node e)) left within is form (position-At e))
+      so_far ∙ ap (point_with q) (position-here positions i x (ps.At e) (Some (cells_of_node e)) left within is form (position_at e))
       ∙ point_number row points q more v (cells_of_node e) (map position_cells (drop (i + 1) positions)) left cell next
 
   pub number_error : (positions : List Position) (i : ℕ) (x : Position) (e : Node) (q : Option (List ℤ)) (error : CellError) (left : List ℤ) (total : Result (Option (List ℤ)) CellFault)
       → i < length positions → x ≡ get_or positions i x → x ≡ ps.At e → StopsWith (cells_of_node e row points []) error
       → total ≡ point_with q (positions_by (map position_cells (drop i positions)) row points left) → StopsWith total error
   number_error positions i x e q error left total within is form stops so_far =
-      subst (λ r. StopsWith r error) (sym (so_far ∙ ap (point_with q) (position-here positions i x (ps.At e) (Some (cells_of_node e)) left within is form (position-At e))))
+      subst (λ r. StopsWith r error) (sym (so_far ∙ ap (point_with q) (position-here positions i x (ps.At e) (Some (cells_of_node e)) left within is form (position_at e))))
       (point_number_stop row points q error (cells_of_node e) (map position_cells (drop (i + 1) positions)) left stops)
 
   split : (left : List ℤ) (z : ℤ) → 1 ≤ length left → z ≡ get_or left 0 z → left ≡ z ∷ take (length left - 1) (drop 1 left)
@@ -224,7 +224,7 @@ module _ (row : List Member) (points : List (List ℤ)) where
       → total ≡ point_with q (positions_by (map position_cells (drop i positions)) row points left)
       → total ≡ point_with more (positions_by (map position_cells (drop (i + 1) positions)) row points (take (length left - 1) (drop 1 left)))
   kept_next positions i x q more z left total within is form some first next so_far =
-      so_far ∙ ap (point_with q) (position-here positions i x ps.Kept None left within is form position-Kept)
+      so_far ∙ ap (point_with q) (position-here positions i x ps.Kept None left within is form position_kept)
       ∙ ap (λ l. point_with q (positions_by (None ∷ map position_cells (drop (i + 1) positions)) row points l)) (split left z some first)
       ∙ point_kept row points q more z (map position_cells (drop (i + 1) positions)) (take (length left - 1) (drop 1 left)) next
 
@@ -235,7 +235,7 @@ module _ (row : List Member) (points : List (List ℤ)) where
   pub kept_out : (positions : List Position) (i : ℕ) (x : Position) (q : Option (List ℤ)) (left : List ℤ) (total : Result (Option (List ℤ)) CellFault) → i < length positions
       → x ≡ get_or positions i x → x ≡ ps.Kept → length left < 1 → total ≡ point_with q (positions_by (map position_cells (drop i positions)) row points left) → total ≡ Ok q
   kept_out positions i x q left total within is form none so_far =
-      so_far ∙ ap (point_with q) (position-here positions i x ps.Kept None left within is form position-Kept ∙ nothing-left (map position_cells (drop (i + 1) positions)) left none)
+      so_far ∙ ap (point_with q) (position-here positions i x ps.Kept None left within is form position_kept ∙ nothing-left (map position_cells (drop (i + 1) positions)) left none)
       ∙ point_end q
 
   pub positions_over : (positions : List Position) (i : ℕ) (q : Option (List ℤ)) (left : List ℤ) (total : Result (Option (List ℤ)) CellFault) → length positions ≤ i
@@ -245,18 +245,18 @@ module _ (row : List Member) (points : List (List ℤ)) where
 
 -- ---- parts of a concat
 
-abbrev part-layer : Part → PartCells
-part-layer x = record { cells = cells_of_node (out-Part x).e; own = axes_kept (out-Part x).own; place = axes_kept (out-Part x).place }
+abbrev pub part_layer : Part → PartCells
+part_layer x = record { cells = cells_of_node (out-Part x).e; own = axes_kept (out-Part x).own; place = axes_kept (out-Part x).place }
 
-part-is : (x : Part) → part_cells x ≡ part-layer x
-part-is x = fold_out-Part NodeCells (Option NodeCells) PartCells node_step position_step part_step x
+pub part_is : (x : Part) → part_cells x ≡ part_layer x
+part_is x = fold_out-Part NodeCells (Option NodeCells) PartCells node_step position_step part_step x
 
 module _ (row : List Member) (points : List (List ℤ)) (p : List ℤ) where
   part-at : (parts : List Part) (i : ℕ) (x : Part) → i < length parts → x ≡ get_or parts i x
-      → joined_at (map part_cells (drop i parts)) row points p ≡ joined_at (part-layer x ∷ map part_cells (drop (i + 1) parts)) row points p
+      → joined_at (map part_cells (drop i parts)) row points p ≡ joined_at (part_layer x ∷ map part_cells (drop (i + 1) parts)) row points p
   part-at parts i x within is =
       ap (λ xs. joined_at (map part_cells xs) row points p) (from_item parts i x within is)
-      ∙ ap (λ y. joined_at (y ∷ map part_cells (drop (i + 1) parts)) row points p) (part-is x)
+      ∙ ap (λ y. joined_at (y ∷ map part_cells (drop (i + 1) parts)) row points p) (part_is x)
 
   pub joined_here : (parts : List Part) (i : ℕ) (x : Part) (b : Bool) (total : CellOutcome) → i < length parts → x ≡ get_or parts i x → b ≡ is_in p (axes_kept (out-Part x).place) → b ≡ true
       → total ≡ joined_at (map part_cells (drop i parts)) row points p

@@ -2,3 +2,10 @@ pub mod Nodes
 pub mod Given
 pub mod Tallies
 pub mod Folding
+pub mod Extents
+pub mod Heads
+pub mod Statics
+pub mod Variables
+pub mod Joins
+pub mod Prepared
+pub mod Places

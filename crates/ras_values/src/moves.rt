@@ -66,14 +66,14 @@ fn push_moved_to(from: &[Interval], to: &[Interval], p: &[i64], q: &mut Point) -
     push_moved_to(firsts, lasts, others, q)
 }
 
-/// None where it leaves 64 bits.
-fn difference(a: &i64, b: &i64) -> Option<i64>
+/// The difference, and None where it leaves 64 bits.
+pub(crate) fn difference(a: &i64, b: &i64) -> Option<i64>
     ensures { SomeIff result (FitsSigned w64 (a.now -ℤ b.now)) (a.now -ℤ b.now) }
 {
     a.checked_sub(*b)
 }
 
-/// None where it leaves 64 bits.
+/// The sum, and None where it leaves 64 bits.
 fn sum(a: &i64, b: &i64) -> Option<i64>
     ensures { SomeIff result (FitsSigned w64 (a.now +ℤ b.now)) (a.now +ℤ b.now) }
 {

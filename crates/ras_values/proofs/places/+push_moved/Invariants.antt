@@ -1,0 +1,4 @@
+use Rattle.ras_values.proofs.places.+push_moved.Given as goal
+
+abbrev pub decreases-push_moved : goal.decreases-push_moved
+decreases-push_moved l = l.along
