@@ -71,7 +71,7 @@ fn is_true(alloc: Global, e: &TypedExpr, number: u64, row: &[ShownArray<'_>]) ->
 {
     let arrays = RowArrays { arrays: row };
     let node = prepared(alloc, e, &arrays)?;
-    match scalar(alloc, node.get(), &arrays, &Purpose::Answer) {
+    match scalar(alloc, &node, &arrays, &Purpose::Answer) {
         Ok(x) => Ok(holds(&x)),
         Err(stop) => Err(stop_in_row(number, stop)),
     }

@@ -9,7 +9,6 @@ use crate::arrays::RowArrays;
 use ras_rows::domains_of;
 use ras_syntax::TypedExpr;
 use ras_values::{Node, prepare};
-use sqlite_items::Boxed;
 use std::alloc::{AllocError, Global};
 
 /// The expression prepared for a row. The error is want of memory.
@@ -18,9 +17,10 @@ pub(crate) fn prepared(
     alloc: Global,
     e: &TypedExpr,
     row: &RowArrays<'_, '_>,
-) -> Result<Boxed<Node>, AllocError>
+) -> Result<Node, AllocError>
     ensures { IfOk result (λ node. cells_of_node node row.now.arrays.now [] ≡ cell_at (environment_of row.now.arrays.now) (tree_of e.now)) }
 {
     let domains = domains_of(alloc, row.arrays)?;
-    prepare(alloc, e, row, domains.as_slice())
+    let node = prepare(alloc, e, row, domains.as_slice())?;
+    Ok(node.into_inner())
 }

@@ -81,14 +81,7 @@ fn cells_of_row(alloc: Global, body: &TypedExpr, plan: &Plan<'_>) -> Result<Cell
     };
     let node = prepared(alloc, body, &row)?;
     let width = width_of(&body.kind);
-    match cells_of(
-        alloc,
-        node.get(),
-        &row,
-        &plan.shape,
-        width,
-        &Purpose::Answer,
-    ) {
+    match cells_of(alloc, &node, &row, &plan.shape, width, &Purpose::Answer) {
         Ok(cells) => Ok(cells),
         Err(stop) => Err(stop_in_row(plan.number, stop)),
     }

@@ -176,7 +176,7 @@ fn cells_of_body(
     };
     let node = prepared(alloc, body, &row)?;
     let width = of.cell.atoms().len() as u32;
-    match cells_of(alloc, node.get(), &row, &plan.shape, width, purpose) {
+    match cells_of(alloc, &node, &row, &plan.shape, width, purpose) {
         Ok(cells) => Ok(cells),
         Err(stop) => Err(stop_in_row(plan.number, stop)),
     }
