@@ -6,6 +6,7 @@ use Rattle.std.proofs.lemmas.List.{take_more}
 use Rattle.std.proofs.lemmas.List.Folds.{list_all_at}
 use Rattle.std.proofs.lemmas.List.Sums.{fold-append}
 use Rattle.std.proofs.Math.Nat.{mul-le-mul_left}
+use Rattle.ras_domain.specs.declared.TheConstants.{MAX_TILE_CELLS}
 use Rattle.spec_workloads.specs.TypeLines.{default_extent, repeated}
 use Rattle.ras_workload.specs.Kept.{are_extents}
 
@@ -39,14 +40,14 @@ cells_more extents i cells extent within is so_far =
     ∙ ap (λ n. n * get_or extents i 0) (sym so_far) ∙ ap (λ n. cells * n) (sym is))
 
 pub extents_refused : (axes : ℕ) (extents : List ℕ) (i cells extent : ℕ) → i < length extents → extent ≡ get_or extents i 0 → cells ≡ fold ◌*◌ 1 (take i extents)
-    → ((extent ≡ 0) ⊎ (65536 < cells * extent)) → are_extents axes extents ≡ false
+    → ((extent ≡ 0) ⊎ (MAX_TILE_CELLS < cells * extent)) → are_extents axes extents ≡ false
 extents_refused axes extents i cells extent within is so_far (inl none) =
     both_false (length extents == axes) _ _ (inl (list_all_at (λ extent. nat_le 1 extent) extents i 0 within (ap (nat_le 1) (sym is ∙ none))))
 extents_refused axes extents i cells extent within is so_far (inr many) =
-    both_false (length extents == axes) (list_all (λ extent. nat_le 1 extent) extents) (nat_le (fold ◌*◌ 1 extents) 65536) (inr (λ each. large (front_grows (i + 1) extents 1 each)))
+    both_false (length extents == axes) (list_all (λ extent. nat_le 1 extent) extents) (nat_le (fold ◌*◌ 1 extents) MAX_TILE_CELLS) (inr (λ each. large (front_grows (i + 1) extents 1 each)))
   where
-    large : fold ◌*◌ 1 (take (i + 1) extents) ≤ fold ◌*◌ 1 extents → nat_le (fold ◌*◌ 1 extents) 65536 ≡ false
-    large low = let k : 65536 < fold ◌*◌ 1 extents = omega (arith, many, low, cells_more extents i cells extent within is so_far) in grind arith
+    large : fold ◌*◌ 1 (take (i + 1) extents) ≤ fold ◌*◌ 1 extents → nat_le (fold ◌*◌ 1 extents) MAX_TILE_CELLS ≡ false
+    large low = let k : MAX_TILE_CELLS < fold ◌*◌ 1 extents = omega (arith, many, low, cells_more extents i cells extent within is so_far) in grind arith
 
 -- ---- extents that are not
 
