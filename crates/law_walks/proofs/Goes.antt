@@ -17,7 +17,7 @@ use Rattle.law_walks.proofs.Comes.{event-comes, quiet-comes}
 use Rattle.law_walks.proofs.Turns.{IsOwnEvent, LivesBy, Turn, event-lives, first, fits-own, fitted, last, middle, quiet-lives, turn_of}
 
 -- a walk goes on by a step
-walks_on : (session : ℕ) (script : ReadScript) (steps : List Step) (walked : Walked) (step : Step) (after : Option LineReply × State)
+pub walks_on : (session : ℕ) (script : ReadScript) (steps : List Step) (walked : Walked) (step : Step) (after : Option LineReply × State)
     → walk session script steps ≡ Some walked → step_from session script walked.state step ≡ Some after
     → walk session script (step ∷ steps) ≡ Some (record { state = after.1; lines = walked.lines ++ line_for walked.state after })
 walks_on session script steps walked step after walks is = ap (λ w. walk_on session script w step) walks ∙ ap (λ a. walked_on walked a) is
@@ -79,7 +79,7 @@ module _ (programs : Programs) (past : History) (session : SessionValue) (event 
   one_more = let begun = began turn in
       cond-true _ _ _ (ap (λ b. began_in session.number b) begun.1 ∙ eq-eqb session.number session.number refl)
 
-  goes_walk : IsWalkOf session.number session.script (event ∷ past) (made event ∷ is.steps)
+  pub goes_walk : IsWalkOf session.number session.script (event ∷ past) (made event ∷ is.steps)
       (record { state = after.1; lines = session.walked.lines ++ line_for session.walked.state after })
   goes_walk = record {
     walks = walks_on session.number session.script is.steps session.walked (made event) after is.is_walk.walks step;

@@ -46,7 +46,7 @@ fitted false after next is = absurd cc
 
 -- ---- who lives behind it
 
-pub LivesBy : SessionPlace → Event → SessionPlace → Type 0
+unfoldable pub LivesBy : SessionPlace → Event → SessionPlace → Type 0
 LivesBy before (Begun t i k) after = (live_in before ≡ None) × (live_in after ≡ Some t)
 LivesBy before (Committed t n) after = live_in after ≡ None
 LivesBy before (Aborted t) after = live_in after ≡ None

@@ -89,6 +89,23 @@ stops_by (update source axes target body condition) plans database reply is =
 stops_by (create name of) plans database reply is = absurd cc
 stops_by (drop name) plans database reply is = absurd cc
 
+stops-too : {A B C : Type 0} (out : Result A Reply) (value : A → B) (next : A → Result C Reply) (reply : Reply)
+    → (out >>= λ a. Ok (value a)) ≡ Err reply → (out >>= next) ≡ Err reply
+stops-too (Ok a) value next reply is = absurd cc
+stops-too (Err other) value next reply is = let same : other ≡ reply = cc in ap Err same
+
+same-stop : {A B : Type 0} (out : Result A Reply) (value : A → B) (reply : Reply) → (out >>= λ a. Ok (value a)) ≡ Err reply → out ≡ Err reply
+same-stop (Ok a) value reply is = absurd cc
+same-stop (Err other) value reply is = let same : other ≡ reply = cc in ap Err same
+
+pub stops_writing : (request : Request) (plans : List Plan) (reply : Reply) → computed_of_plans request plans ≡ Err reply → writings_of_plans request plans ≡ Err reply
+stops_writing (select body sources condition) plans reply is = stops-too (values_of_plans body plans) answered (λ rows. Ok []) reply is
+stops_writing (insert into of body) plans reply is = same-stop (writings_of_plans (insert into of body) plans) written reply is
+stops_writing (delete source condition) plans reply is = same-stop (writings_of_plans (delete source condition) plans) written reply is
+stops_writing (update source axes target body condition) plans reply is = same-stop (writings_of_plans (update source axes target body condition) plans) written reply is
+stops_writing (create name of) plans reply is = same-stop (writings_of_plans (create name of) plans) written reply is
+stops_writing (drop name) plans reply is = same-stop (writings_of_plans (drop name) plans) written reply is
+
 -- ---- over the database that is shown
 
 module _ (tree : StatementTree) (database : Database) where
@@ -137,6 +154,16 @@ module _ (tree : StatementTree) (database : Database) where
       by (Ok plans) e f =
           ap (λ (r : Result (List Plan) Reply). reply_in (r >>= λ some. outcome_of_plans tree.request some database)) (bodies-short plans e short) ∙ stops_by tree.request plans database reply f
 
+  pub stopped_writing : (reply : Reply) → (reply_of_checked tree database ≡ too_many_locks tree → ⊥) → over ≡ Err reply → written_by tree database ≡ Err reply
+  stopped_writing reply short is = by (until_plans tree database) refl is
+    where
+      by : (r : Result (List Plan) Reply) → until_plans tree database ≡ r → (r >>= computed_of_plans tree.request) ≡ Err reply → written_by tree database ≡ Err reply
+      by (Err other) e f =
+          let same : other ≡ reply = cc in
+          ap (λ (r : Result (List Plan) Reply). (r >>= λ some. limited_locks tree (phase_4_list tree some) >>= λ asked. Ok some)
+          >>= writings_of_plans tree.request) e ∙ ap Err same
+      by (Ok plans) e f = ap (λ (r : Result (List Plan) Reply). r >>= writings_of_plans tree.request) (bodies-short plans e short) ∙ stops_writing tree.request plans reply f
+
 -- ---- over each database for which the view stands
 
 module _ (types : List SetType) (statement : Statement) (holdings : Holdings) (checked : Checked) (one other : Database) (names : List (ℕ × List ℕ)) where
@@ -168,5 +195,7 @@ module _ (types : List SetType) (statement : Statement) (holdings : Holdings) (c
           → IsComputedAs types statement checked other result
       by shown here not_long replies writes (Ok (Rows rows)) gives = replies ∙ replied checked_tree shown (map row_reply_of rows) not_long (here ∙ gives)
       by shown here not_long replies writes (Ok (Writes some)) gives = writes ∙ wrote checked_tree shown _ not_long (here ∙ gives)
-      by shown here not_long replies writes (Err (Answer answer)) gives = replies ∙ stopped checked_tree shown (reply_of_answer answer) not_long (here ∙ gives)
+      by shown here not_long replies writes (Err (Answer answer)) gives =
+          (replies ∙ stopped checked_tree shown (reply_of_answer answer) not_long (here ∙ gives),
+          writes ∙ stopped_writing checked_tree shown (reply_of_answer answer) not_long (here ∙ gives))
       by shown here not_long replies writes (Err Memory) gives = tt

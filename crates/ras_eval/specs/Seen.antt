@@ -32,10 +32,12 @@ pub record IsSeenOne (types : List SetType) (statement : Statement) (holdings : 
 abbrev pub too_many_locks : StatementTree → Reply
 too_many_locks tree = misfit 0 (whole_text tree) TooManyLocks
 
--- the rows are the reply over a database, the writes are what is written to it, and another answer is the reply
+-- the rows are the reply over a database, the writes are what is written to it, and another answer is the reply, with which
+-- the statement ends before anything is written
 abbrev pub IsComputedAs : List SetType → Statement → Checked → Database → Result Computed Stop → Type 0
 IsComputedAs types statement checked database (Ok (Rows rows)) = reply_of types statement database ≡ values (map row_reply_of rows)
 IsComputedAs types statement checked database (Ok (Writes writes)) =
     written_by (statement_tree_of checked) database ≡ Ok (writings_of (request_of checked.form) writes)
-IsComputedAs types statement checked database (Err (Answer answer)) = reply_of types statement database ≡ reply_of_answer answer
+IsComputedAs types statement checked database (Err (Answer answer)) =
+    (reply_of types statement database ≡ reply_of_answer answer) × (written_by (statement_tree_of checked) database ≡ Err (reply_of_answer answer))
 IsComputedAs types statement checked database (Err Memory) = Unit {0}
