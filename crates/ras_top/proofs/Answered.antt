@@ -33,12 +33,12 @@ same-text input one other told e = rw e at told
 module _ (call : Call) where
   is-workload : (said : Said) (text : Text) → IsDueIn call said → call.input ≡ Some text → status_of said ≡ 0
       → (length text ≤ MOST_BYTES) × ((workload : WorkloadValue) × (whole_workload_of text ≡ Ok workload))
-  is-workload (report workload outcome) text (Run workers schedule, asked, other, read, is) told done =
+  is-workload (report workload outcome) text (Run workers schedule, asked, (other, read, is)) told done =
       let same = same-text call.input other text read.told told in
       (subst (λ t. length t ≤ MOST_BYTES) same read.few, (workload, subst (λ t. whole_workload_of t ≡ Ok workload) same is.0))
-  is-workload (report workload outcome) text (Check, asked, other, read, is) told done = absurd is
-  is-workload (checks workload) text (Run workers schedule, asked, other, read, is) told done = absurd is
-  is-workload (checks workload) text (Check, asked, other, read, is) told done =
+  is-workload (report workload outcome) text (Check, asked, (other, read, is)) told done = absurd is
+  is-workload (checks workload) text (Run workers schedule, asked, (other, read, is)) told done = absurd is
+  is-workload (checks workload) text (Check, asked, (other, read, is)) told done =
       let same = same-text call.input other text read.told told in
       (subst (λ t. length t ≤ MOST_BYTES) same read.few, (workload, subst (λ t. whole_workload_of t ≡ Ok workload) same is))
   is-workload (refusal fault) text due told done = absurd (omega (arith, done))
@@ -52,14 +52,14 @@ module _ (call : Call) where
   ran-whole : (said : Said) → IsDueIn call said → Printed call (text_of said) → status_of said ≡ 0
       → (workers : ℕ) (schedule : Turns) → AskFor call.words (Ok (Run workers schedule)) → HasRun call schedule
   ran-whole (report workload outcome) due printed done workers schedule asked =
-      let is : IsSaidOf (report workload outcome) (Run workers schedule) due.2.2.0 =
-          subst (λ command. IsSaidOf (report workload outcome) command due.2.2.0)
-          (same-command call.words due.0 (Run workers schedule) due.1 asked) due.2.2.2 in
-      record { text = due.2.2.0; workload = workload; outcome = outcome; read = due.2.2.1; found = is.0; run = is.1; printed = printed }
+      let is : IsSaidOf (report workload outcome) (Run workers schedule) due.2.0 =
+          subst (λ command. IsSaidOf (report workload outcome) command due.2.0)
+          (same-command call.words due.0 (Run workers schedule) due.1 asked) due.2.2 in
+      record { text = due.2.0; workload = workload; outcome = outcome; read = due.2.1; found = is.0; run = is.1; printed = printed }
   ran-whole (checks workload) due printed done workers schedule asked =
-      let is : IsSaidOf (checks workload) (Run workers schedule) due.2.2.0 =
-          subst (λ command. IsSaidOf (checks workload) command due.2.2.0)
-          (same-command call.words due.0 (Run workers schedule) due.1 asked) due.2.2.2 in
+      let is : IsSaidOf (checks workload) (Run workers schedule) due.2.0 =
+          subst (λ command. IsSaidOf (checks workload) command due.2.0)
+          (same-command call.words due.0 (Run workers schedule) due.1 asked) due.2.2 in
       absurd is
   ran-whole (refusal fault) due printed done workers schedule asked = absurd (omega (arith, done))
   ran-whole too_long due printed done workers schedule asked = absurd (omega (arith, done))
@@ -70,13 +70,13 @@ module _ (call : Call) where
   checked-whole : (said : Said) → IsDueIn call said → Printed call (text_of said) → status_of said ≡ 0
       → AskFor call.words (Ok Check) → HasChecked call
   checked-whole (report workload outcome) due printed done asked =
-      let is : IsSaidOf (report workload outcome) Check due.2.2.0 =
-          subst (λ command. IsSaidOf (report workload outcome) command due.2.2.0) (same-command call.words due.0 Check due.1 asked) due.2.2.2 in
+      let is : IsSaidOf (report workload outcome) Check due.2.0 =
+          subst (λ command. IsSaidOf (report workload outcome) command due.2.0) (same-command call.words due.0 Check due.1 asked) due.2.2 in
       absurd is
   checked-whole (checks workload) due printed done asked =
-      let is : IsSaidOf (checks workload) Check due.2.2.0 =
-          subst (λ command. IsSaidOf (checks workload) command due.2.2.0) (same-command call.words due.0 Check due.1 asked) due.2.2.2 in
-      record { text = due.2.2.0; workload = workload; read = due.2.2.1; found = is; printed = printed }
+      let is : IsSaidOf (checks workload) Check due.2.0 =
+          subst (λ command. IsSaidOf (checks workload) command due.2.0) (same-command call.words due.0 Check due.1 asked) due.2.2 in
+      record { text = due.2.0; workload = workload; read = due.2.1; found = is; printed = printed }
   checked-whole (refusal fault) due printed done asked = absurd (omega (arith, done))
   checked-whole too_long due printed done asked = absurd (omega (arith, done))
   checked-whole (bad_words fault) due printed done asked = absurd (omega (arith, done))
@@ -89,13 +89,13 @@ module _ (call : Call) where
   done-whole (report workload outcome) due command text value asked told few found quiet = inl refl
   done-whole (checks workload) due command text value asked told few found quiet = inl refl
   done-whole (refusal fault) due command text value asked told few found quiet =
-      let same = same-text call.input due.2.2.0 text due.2.2.1.told told in
-      let not_found : whole_workload_of text ≡ Err fault = subst (λ t. whole_workload_of t ≡ Err fault) same due.2.2.2 in
+      let same = same-text call.input due.2.0 text due.2.1.told told in
+      let not_found : whole_workload_of text ≡ Err fault = subst (λ t. whole_workload_of t ≡ Err fault) same due.2.2 in
       absurd (cc (found, not_found))
   done-whole too_long due command text value asked told few found quiet =
-      let long : MOST_BYTES < length text = rw told at due.2.2 in absurd (omega (arith, long, few))
+      let long : MOST_BYTES < length text = rw told at due.2 in absurd (omega (arith, long, few))
   done-whole (bad_words fault) due command text value asked told few found quiet = absurd (never-both call.words command fault asked due)
-  done-whole read_failed due command text value asked told few found quiet = absurd (quiet due.2.2)
+  done-whole read_failed due command text value asked told few found quiet = absurd (quiet due.2)
   done-whole no_memory due command text value asked told few found quiet = inr refl
 
   refused-whole : (said : Said) → IsDueIn call said → (command : Command) (text : Text) (fault : WorkloadFaultValue)
@@ -108,7 +108,7 @@ module _ (call : Call) where
   refused-whole (refusal other) due command text fault asked told wrong quiet = inl refl
   refused-whole too_long due command text fault asked told wrong quiet = inl refl
   refused-whole (bad_words words_fault) due command text fault asked told wrong quiet = absurd (never-both call.words command words_fault asked due)
-  refused-whole read_failed due command text fault asked told wrong quiet = absurd (quiet due.2.2)
+  refused-whole read_failed due command text fault asked told wrong quiet = absurd (quiet due.2)
   refused-whole no_memory due command text fault asked told wrong quiet = inr refl
 
   long-whole : (said : Said) → IsDueIn call said → (command : Command) (text : Text)
@@ -121,7 +121,7 @@ module _ (call : Call) where
   long-whole (refusal fault) due command text asked told long quiet = inl refl
   long-whole too_long due command text asked told long quiet = inl refl
   long-whole (bad_words fault) due command text asked told long quiet = absurd (never-both call.words command fault asked due)
-  long-whole read_failed due command text asked told long quiet = absurd (quiet due.2.2)
+  long-whole read_failed due command text asked told long quiet = absurd (quiet due.2)
   long-whole no_memory due command text asked told long quiet = inr refl
 
   words-whole : (said : Said) → IsDueIn call said → (fault : WordsFault) → AskFor call.words (Err fault)

@@ -1,7 +1,7 @@
 -- The workload of a whole text is one of the text with what follows it left out; so its programs are those that histories are
 -- judged by, and each outcome of running it can be printed.
 use Rattle.std.proofs.Common.{◌≡◌, ◌+◌, ◌≤◌, ℕ, List, [], ◌∷◌, Result, map, All, sym, ap, subst, arith}
-use Rattle.std.specs.Prelude.{Ok, Err}
+use Rattle.std.specs.Prelude.{Ok, Err, drop}
 use Rattle.std.proofs.lemmas.List.Elements.{All-weaker}
 use Rattle.law_sessions.proofs.Printable.{printable}
 use Rattle.law_workloads.proofs.Programs.{workloads-are, sessions-short}
@@ -17,9 +17,10 @@ use Rattle.ras_syntax.specs.declared.limits.TheConstants.{MAX_FIRST_IDENTIFIER, 
 use Rattle.ras_top.specs.Said.{IsRunBy}
 use Rattle.spec_commands.specs.Commands.{after_blanks, after_setup, if_nothing, line_behind, whole_workload_of, with_outline}
 use Rattle.spec_grammar.specs.Tokens.{Text}
+use Rattle.spec_histories.specs.History.{Programs}
 use Rattle.spec_sessions.specs.Begins.{read_script}
 use Rattle.spec_sessions.specs.Outcomes.{OutcomeValue}
-use Rattle.spec_workloads.specs.Outline.{Outline, OutlineFault}
+use Rattle.spec_workloads.specs.Outline.{Outline, OutlineFault, outline_of}
 use Rattle.spec_workloads.specs.Programs.{programs_of, statements_in_script}
 use Rattle.spec_workloads.specs.Setup.{SetupFault, WorkloadValue, workload_of, workload_of_outline, workload_with_place, with_setup}
 

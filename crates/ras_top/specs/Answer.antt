@@ -1,14 +1,14 @@
 -- The answers of the code, and what they say.
-use Rattle.std.specs.Prelude.{◌≡◌, ℕ, List, Option, Ok, codes}
+use Rattle.std.specs.Prelude.{◌≡◌, ℕ, Bool, true, false, List, Option, Some, None, Ok, codes}
 use Rattle.std.specs.Arc.{arc_value}
-use Rattle.ras_commands.specs.Checks.{checks_text, refusal_text}
+use Rattle.ras_commands.specs.Texts.{checks_text, refusal_text}
 use Rattle.ras_report.specs.Once.{AreAnsweredOnce}
 use Rattle.ras_setup.specs.Found.{IsWorkload}
 use Rattle.ras_store.specs.declared.workload.Workload.{Workload}
 use Rattle.spec_commands.specs.Commands.{whole_workload_of}
 use Rattle.spec_grammar.specs.Tokens.{Text}
 use Rattle.spec_sessions.specs.Report.{report_text}
-use Rattle.spec_workloads.specs.Setup.{WorkloadValue}
+use Rattle.spec_workloads.specs.Setup.{WorkloadFaultValue, WorkloadValue}
 use Rattle.ras_top.specs.Said.{IsDue, IsSaidBy, IsSaidOf, Said, status_of, text_of, words_refusal}
 use Rattle.ras_top.specs.declared.answer.Answer.{Answer}
 use Rattle.ras_top.specs.declared.answer.Answer.TheVariants.{Report, Checked, Refused, TooLong, BadWords, ReadFailed, NoMemory}
@@ -25,7 +25,7 @@ answer_status NoMemory = 5
 
 abbrev pub answer_text : Answer → Text
 answer_text (Report workload outcome) = report_text (arc_value workload).scripts outcome
-answer_text (Checked workload checks) = checks_text workload checks
+answer_text (Checked workload checks) = checks_text workload.scripts checks.sessions
 answer_text (Refused refusal) = refusal_text refusal
 answer_text TooLong = codes "refused too long\n"
 answer_text (BadWords fault) = words_refusal fault
@@ -72,3 +72,10 @@ pub record IsOfText (workload : Workload) : Type 0 where
   pub value : WorkloadValue
   pub found : whole_workload_of text ≡ Ok value
   pub is : IsWorkload value workload
+
+-- ---- faults of texts
+
+-- memory was wanting, and there is no fault
+abbrev pub is_wanting : Option WorkloadFaultValue → Bool
+is_wanting None = true
+is_wanting (Some fault) = false

@@ -71,7 +71,9 @@ fn write_answer<K: Sink>(sink: &mut K, answer: &Answer) -> Result<(), Failed>
         Answer::Report { workload, outcome } => {
             write_report(workload.scripts.as_slice(), outcome, sink)
         }
-        Answer::Checked { workload, checks } => write_checks(sink, workload, checks),
+        Answer::Checked { workload, checks } => {
+            write_checks(sink, workload.scripts.as_slice(), checks)
+        }
         Answer::Refused(refusal) => write_refusal(sink, refusal),
         Answer::TooLong => write_whole(sink, b"refused too long\n"),
         Answer::BadWords(fault) => write_words_refusal(sink, *fault),

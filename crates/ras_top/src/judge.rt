@@ -2,13 +2,14 @@
 ghost use Rattle.std.specs.Prelude.{◌≡◌, ◌≤◌, map, length, string_bytes, Ok, Err};
 ghost use Rattle.std.specs.Arc.{arc_value};
 ghost use Rattle.ras_settings.specs.declared.settings.WordsFault.{WordsFault};
-ghost use Rattle.ras_setup.specs.Found.{IsWorkload};
+ghost use Rattle.ras_setup.specs.Found.{IsWantedFault, IsWorkload, refusal_seen};
 ghost use Rattle.spec_commands.specs.Commands.{whole_workload_of};
 ghost use Rattle.spec_grammar.specs.Tokens.{Text};
 ghost use Rattle.spec_workloads.specs.Setup.{WorkloadValue};
-ghost use Rattle.ras_top.specs.Answer.{IsAnswerBy, IsAnswerDue, IsAnswerOf, IsOfText};
+ghost use Rattle.ras_top.specs.Answer.{IsAnswerBy, IsAnswerDue, IsAnswerOf, IsOfText, is_wanting};
 ghost use Rattle.ras_top.specs.Commands.{AskFor};
 ghost use Rattle.ras_top.specs.declared.TheConstants.{MOST_BYTES};
+ghost use Rattle.ras_top.specs.declared.command.Command.{Command};
 ghost use Rattle.ras_top.specs.declared.command.Command.TheVariants as command;
 
 use crate::MOST_BYTES;
@@ -69,15 +70,44 @@ fn judge_text<R: Threads + Sync>(rt: &R, alloc: Global, command: Command, text: 
     ensures { IsAnswerOf command text.now result }
 {
     match read_whole_workload(rt, alloc, text, command.workers(), &OpenGate) {
-        Ok(workload) => match command {
-            Command::Check => check(alloc, workload),
-            Command::Run { workers, schedule } => {
-                run(rt, alloc, workload, schedule.as_slice(), workers)
-            }
-        },
-        Err(WorkloadRefusal::Outline(WorkloadFault::Memory)) => Answer::NoMemory,
-        Err(refusal) => Answer::Refused(refusal),
+        Ok(workload) => judge_workload(rt, alloc, command, workload),
+        Err(refusal) => refuse(refusal),
     }
+}
+
+/// Does with a workload what the command asks for.
+fn judge_workload<R: Threads + Sync>(
+    rt: &R,
+    alloc: Global,
+    command: Command,
+    workload: Workload,
+) -> Answer
+    requires witness { IsOfText workload }
+    ensures { (text : Text) (value : WorkloadValue) → whole_workload_of text ≡ Ok value → IsWorkload value workload
+        → IsAnswerOf command text result }
+{
+    match command {
+        Command::Check => check(alloc, workload),
+        Command::Run { workers, schedule } => {
+            run(rt, alloc, workload, schedule.as_slice(), workers)
+        }
+    }
+}
+
+/// The answer to a text that is no workload, or for which memory was wanting.
+fn refuse(refusal: WorkloadRefusal) -> Answer
+    ensures { (command : Command) (text : Text) → IsWantedFault (whole_workload_of text) refusal → IsAnswerOf command text result }
+{
+    if is_memory(&refusal) {
+        return Answer::NoMemory;
+    }
+    Answer::Refused(refusal)
+}
+
+fn is_memory(refusal: &WorkloadRefusal) -> bool
+    ensures { result ≡ is_wanting (refusal_seen refusal.now) }
+{
+    matches!(refusal, WorkloadRefusal::Outline(WorkloadFault::Memory))
 }
 
 /// Checks each statement of a workload.
