@@ -55,5 +55,8 @@ pub record IsFormCheck (types : List SetType) (base : Store) (statement : Statem
 pub record IsCheckOf (types : List SetType) (base : Store) (text : Text) (check : StatementCheck) : Type 0 where
   pub is : (database : Database) → Keeps types (store_kept base) database → check ≡ text_check types database text
 
-pub record AreChecksOf (types : List SetType) (base : Store) (script : Script) (checks : List StatementCheck) : Type 0 where
-  pub are : (database : Database) → Keeps types (store_kept base) database → checks ≡ script_checks types database script
+pub record AreChecksOf (types : List SetType) (base : Store) (texts : List Text) (checks : List StatementCheck) : Type 0 where
+  pub are : (database : Database) → Keeps types (store_kept base) database → checks ≡ map (text_check types database) texts
+
+pub record AreSessionsOf (types : List SetType) (base : Store) (scripts : List Script) (sessions : List (List StatementCheck)) : Type 0 where
+  pub are : (database : Database) → Keeps types (store_kept base) database → sessions ≡ map (script_checks types database) scripts

@@ -2,11 +2,11 @@
 ghost use Rattle.std.specs.Prelude.{◌≡◌, IfOk};
 ghost use Rattle.ras_setup.specs.Found.{IsWorkload};
 ghost use Rattle.spec_workloads.specs.Setup.{WorkloadValue};
-ghost use Rattle.ras_commands.specs.Checks.{AreChecksOf, IsCheckOf, IsFormCheck, checks_of};
+ghost use Rattle.ras_commands.specs.Checks.{AreChecksOf, AreSessionsOf, IsCheckOf, IsFormCheck, checks_of, is_word};
 
 use crate::checks::{Checks, StatementCheck};
 use ras_catalog::CheckError;
-use ras_domain::List;
+use ras_domain::{List, Text};
 use ras_named::check_in_store;
 use ras_parse::lists::push;
 use ras_parse::{ParseFault, parse_statement};
@@ -19,24 +19,37 @@ use std::alloc::{AllocError, Global};
 pub fn check_workload(alloc: Global, workload: &Workload) -> Result<Checks, AllocError>
     ensures { IfOk result (λ checks. (value : WorkloadValue) → IsWorkload value workload.now → checks.sessions ≡ checks_of value) }
 {
-    let mut sessions = List::new(alloc);
-    for script in workload.scripts.as_slice() {
-        let checks = check_script(alloc, &workload.types, &workload.base, script)?;
-        push(alloc, &mut sessions, checks)?;
-    }
+    let scripts = workload.scripts.as_slice();
+    let sessions = check_scripts(alloc, &workload.types, &workload.base, scripts)?;
     Ok(Checks { sessions })
 }
 
-fn check_script(
+fn check_scripts(
     alloc: Global,
     types: &Types,
     base: &Store,
-    script: &Script,
+    scripts: &[Script],
+) -> Result<List<List<StatementCheck>>, AllocError>
+    ensures { IfOk result (AreSessionsOf types.now base.now scripts.now) }
+{
+    let mut sessions = List::new(alloc);
+    for script in scripts {
+        let checks = check_texts(alloc, types, base, script.statements.as_slice())?;
+        push(alloc, &mut sessions, checks)?;
+    }
+    Ok(sessions)
+}
+
+fn check_texts(
+    alloc: Global,
+    types: &Types,
+    base: &Store,
+    texts: &[Text],
 ) -> Result<List<StatementCheck>, AllocError>
-    ensures { IfOk result (AreChecksOf types.now base.now script.now) }
+    ensures { IfOk result (AreChecksOf types.now base.now texts.now) }
 {
     let mut checks = List::new(alloc);
-    for text in script.statements.as_slice() {
+    for text in texts {
         let check = check_text(alloc, types, base, text.bytes())?;
         push(alloc, &mut checks, check)?;
     }
