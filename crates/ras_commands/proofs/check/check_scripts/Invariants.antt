@@ -7,5 +7,5 @@ use Rattle.ras_commands.proofs.check.check_scripts.Given as goal
 
 -- those of the scripts so far
 abbrev pub invariant-loop-script : goal.invariant-loop-script
-invariant-loop-script g l = (database : Database) → Keeps l.types (store_kept l.base) database
+invariant-loop-script l = (database : Database) → Keeps l.types (store_kept l.base) database
     → l.sessions ≡ take l.script-index (map (script_checks l.types database) l.scripts)

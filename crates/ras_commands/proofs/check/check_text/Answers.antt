@@ -10,5 +10,5 @@ returns-in-Ok c =
 
 pub returns-in-Err-Fault : goal.returns-in-Err-Fault
 returns-in-Err-Fault c =
-    let told = c.parse_statement.ensures.only (verdict_of c.args.text.now) (verdict_of-is c.args.text.now) in
-    syntax_said c.args.types.now c.args.base.now c.args.text.now _ (rw c.in-Err-Fault.is at told)
+    let told = c.in-Err-Fault.ensures.only (verdict_of c.args.text.now) (verdict_of-is c.args.text.now) in
+    rw c.in-Err-Fault.field-0-is (syntax_said c.args.types.now c.args.base.now c.args.text.now c.in-Err-Fault.fault (rw c.in-Err-Fault.field-0-is at told))

@@ -7,4 +7,4 @@ use Rattle.ras_commands.proofs.check.check_texts.Given as goal
 
 -- those of the texts so far
 abbrev pub invariant-loop-text : goal.invariant-loop-text
-invariant-loop-text g l = (database : Database) → Keeps l.types (store_kept l.base) database → l.checks ≡ take l.text-index (map (text_check l.types database) l.texts)
+invariant-loop-text l = (database : Database) → Keeps l.types (store_kept l.base) database → l.checks ≡ take l.text-index (map (text_check l.types database) l.texts)
