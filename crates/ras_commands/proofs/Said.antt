@@ -1,11 +1,9 @@
 -- What is said of a statement, of a text, and of the statements of a session.
-use Rattle.std.proofs.Common.{◌≡◌, ℕ, ◌+◌, ◌<◌, ◌≤◌, false, true, List, [], ◌∷◌, ◌++◌, length, get_or, map, take, Result, Ok, Err, refl, sym, ◌∙◌, ap, subst, arith}
+use Rattle.std.proofs.Common.{◌≡◌, false, true, List, map, Result, Ok, Err, refl, sym, ◌∙◌, ap, subst}
 use Rattle.std.specs.Prelude.{IfOk}
-use Rattle.std.proofs.lemmas.List.{length-map, take_all}
 use Rattle.ras_catalog.specs.Outcome.{IsChecked}
-use Rattle.ras_catalog.specs.declared.fault.CheckError.{CheckError}
 use Rattle.ras_catalog.specs.declared.fault.CheckError.TheVariants as errors
-use Rattle.ras_commands.specs.Checks.{AreChecksOf, AreSessionsOf, IsCheckOf, IsFormCheck, check_seen, checks_of, form_check, is_word, script_checks, text_check, verdict_check}
+use Rattle.ras_commands.specs.Checks.{AreSessionsOf, IsCheckOf, IsFormCheck, check_seen, checks_of, form_check, is_word, script_checks, verdict_check}
 use Rattle.ras_commands.specs.declared.checks.StatementCheck.{StatementCheck}
 use Rattle.ras_commands.specs.declared.checks.StatementCheck.TheVariants.{Fault, Fine, Syntax}
 use Rattle.ras_setup.specs.Found.{IsWorkload}
@@ -13,7 +11,6 @@ use Rattle.ras_store.specs.Databases.{Keeps}
 use Rattle.ras_store.specs.Store.{store_kept}
 use Rattle.ras_store.specs.declared.store.Store.{Store}
 use Rattle.ras_store.specs.declared.workload.Workload.{Workload}
-use Rattle.ras_rows.proofs.Turns.{mapped-turn}
 use Rattle.ras_syntax.specs.declared.faults.CheckFault.{CheckFault}
 use Rattle.ras_syntax.specs.declared.faults.SyntaxFault.{SyntaxFault}
 use Rattle.ras_syntax.specs.declared.span.Span.{Span}
@@ -21,7 +18,6 @@ use Rattle.ras_syntax.specs.declared.statement.Statement.{Statement}
 use Rattle.ras_syntax.specs.declared.statement.StatementForm.{StatementForm}
 use Rattle.ras_syntax.specs.declared.statement.StatementForm.TheVariants as forms
 use Rattle.ras_syntax.specs.declared.typed.Checked.{Checked}
-use Rattle.ras_syntax.specs.declared.types.Script.{Script}
 use Rattle.ras_syntax.specs.declared.types.SetType.{SetType}
 use Rattle.spec_expressions.specs.Database.{Database}
 use Rattle.spec_grammar.specs.Tokens.{Text}

@@ -1,4 +1,4 @@
-use Rattle.std.proofs.Common.{length, map, arith, ◌∙◌, refl}
+use Rattle.std.proofs.Common.{map, arith, ◌∙◌}
 use Rattle.std.proofs.lemmas.List.{length-map, take_all}
 use Rattle.ras_commands.specs.Checks.{script_checks}
 use Rattle.ras_rows.proofs.Turns.{mapped-turn}
@@ -12,7 +12,9 @@ loop-script-preserved c = λ database keeps.
     ((rw c.as_slice.ensures at said).are database keeps) c.in_ok-push.ensures
 
 pub returns : goal.returns
-returns c = record { are = λ database keeps.
-    c.loop-script.invariant database keeps
-    ∙ take_all c.loop-script.script-index (map (script_checks c.args.types.now database) c.args.scripts.now)
-    (omega (arith, length-map c.args.scripts.now (script_checks c.args.types.now database), c.loop-script-test.false)) }
+returns c = record {
+  are = λ database keeps.
+      c.loop-script.invariant database keeps
+      ∙ take_all c.loop-script.script-index (map (script_checks c.args.types.now database) c.args.scripts.now)
+      (omega (arith, length-map c.args.scripts.now (script_checks c.args.types.now database), c.loop-script-test.false));
+}

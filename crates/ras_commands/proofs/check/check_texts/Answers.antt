@@ -1,4 +1,4 @@
-use Rattle.std.proofs.Common.{length, map, arith, ◌∙◌, refl}
+use Rattle.std.proofs.Common.{map, arith, ◌∙◌}
 use Rattle.std.proofs.lemmas.List.{length-map, take_all}
 use Rattle.ras_commands.specs.Checks.{text_check}
 use Rattle.ras_rows.proofs.Turns.{mapped-turn}
@@ -12,7 +12,9 @@ loop-text-preserved c = λ database keeps.
     ((rw c.bytes.ensures at said).is database keeps) c.in_ok-push.ensures
 
 pub returns : goal.returns
-returns c = record { are = λ database keeps.
-    c.loop-text.invariant database keeps
-    ∙ take_all c.loop-text.text-index (map (text_check c.args.types.now database) c.args.texts.now)
-    (omega (arith, length-map c.args.texts.now (text_check c.args.types.now database), c.loop-text-test.false)) }
+returns c = record {
+  are = λ database keeps.
+      c.loop-text.invariant database keeps
+      ∙ take_all c.loop-text.text-index (map (text_check c.args.types.now database) c.args.texts.now)
+      (omega (arith, length-map c.args.texts.now (text_check c.args.types.now database), c.loop-text-test.false));
+}
