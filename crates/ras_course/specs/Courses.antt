@@ -25,11 +25,10 @@ use Rattle.spec_views.specs.Writings.{written_by}
 -- the check is the statement's over a database; none is needed before the first phase was seen
 abbrev pub HasCheck : List SetType → Statement → ℕ → Option Checked → Database → Type 0
 HasCheck types statement next None database = next ≤ 2
-HasCheck types statement next (Some checked) database =
-    (2 ≤ next) × (is_too_long (first_list statement) ≡ false) × (checked_over types statement database ≡ Ok checked)
+HasCheck types statement next (Some checked) database = (2 ≤ next) × (checked_over types statement database ≡ Ok checked)
 
--- the rows are those that pass; none are needed before the first three phases were seen. No list that was seen was too long:
--- it would have been the answer
+-- the rows are those that pass; none are needed before the first three phases were seen. No list of the earlier phases is too
+-- long: it would have been the answer
 abbrev pub HasRows : List SetType → Statement → ℕ → Option Checked → Option (List (ℕ × List ℕ)) → Database → Type 0
 HasRows types statement next None None database = next ≤ 4
 HasRows types statement next None (Some rows) database = ⊥
@@ -43,6 +42,7 @@ HasRows types statement next (Some checked) (Some rows) database =
 pub record IsKnownTo (types : List SetType) (statement : Statement) (next : ℕ) (checked : Option Checked) (rows : Option (List (ℕ × List ℕ))) (database : Database) : Type 0 where
   pub some : 1 ≤ next
   pub within : next ≤ 5
+  pub short : 2 ≤ next → is_too_long (first_list statement) ≡ false
   pub has_check : HasCheck types statement next checked database
   pub has_rows : HasRows types statement next checked rows database
 
