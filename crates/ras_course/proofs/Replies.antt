@@ -108,7 +108,7 @@ err-before (Ok a) f reply is = absurd cc
 err-before (Err other) f reply is = let same : other ≡ reply = cc in ap Err same
 
 never-ok : {A : Type 0} (r : Result A Reply) (a : A) (reply : Reply) → r ≡ Ok a → r ≡ Err reply → ⊥
-never-ok r a reply is other = let both : (let one : Result A Reply = Ok a in one ≡ Err reply) = sym is ∙ other in absurd cc
+never-ok {A = A} r a reply is other = let both : (let one : Result A Reply = Ok a in one ≡ Err reply) = sym is ∙ other in absurd cc
 
 module _ (tree : StatementTree) (database : Database) where
   -- the reply of a select's rows
