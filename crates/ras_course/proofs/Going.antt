@@ -1,5 +1,6 @@
 -- The steps of a course, by what each call gives.
 use Rattle.std.proofs.Common.{◌≡◌, ◌≢◌, ℕ, zero, suc, ◌<◌, ◌≤◌, inl, inr, false, List, [], ◌∷◌, Option, Some, None, Result, Ok, Err, refl, sym, ap, ◌∙◌, subst, arith}
+use Rattle.std.specs.Option.{is_some}
 use Rattle.std.proofs.lemmas.Bool.{cases_lt}
 use Rattle.ras_catalog.specs.declared.fault.CheckError.{CheckError}
 use Rattle.ras_catalog.specs.Outcome.{IsChecked}
@@ -55,6 +56,10 @@ HasComputed holdings checked rows result =
     (types : List SetType) (statement : Statement) (one other : Database) → IsSeenOne types statement holdings checked 5 one
     → (reply_of types statement one ≡ too_many_locks (statement_tree_of checked) → ⊥) → IsSeenBy types holdings statement 5 other
     → passing_by (statement_tree_of checked) other ≡ Ok rows → IsComputedAs types statement checked other result
+
+pub none_of : {A : Type 0} (a : Option A) → is_some a ≡ false → a ≡ None
+none_of None is = refl
+none_of (Some x) is = absurd cc
 
 module _ (types : List SetType) (statement : Statement) (holdings : Holdings) where
   -- ---- steps one after another
@@ -241,13 +246,12 @@ module _ (types : List SetType) (statement : Statement) (holdings : Holdings) wh
   found-rows next checked None database few has = (has, λ fourth. absurd (omega (arith, few, fourth)))
   found-rows next checked (Some rows) database few has = absurd has
 
-  pub check_found : (old new : Course) (checked : Checked) → old.checked ≡ None
+  pub check_found : (old : Course) (found : Option Checked) (checked : Checked) → old.checked ≡ None
       → ((database : Database) → StandsFor types holdings (first_list statement) database
       → (let outcome : Result Checked CheckError = Ok checked in IsChecked (checked_over types statement database) outcome))
-      → new ≡ record { next = old.next; checked = Some checked; rows = old.rows } → IsStep 2 2 types statement holdings old new (Ok tt)
-  check_found old new checked none given is = record {
+      → found ≡ Some checked → IsStep 2 2 types statement holdings old (record { next = old.next; checked = found; rows = old.rows }) (Ok tt)
+  check_found old found checked none given is = record {
     goes = λ one other come seen later.
-        let same : new.next ≡ old.next = ap (λ (c : Course). c.next) is in
         let short : is_too_long (first_list statement) ≡ false = come.known.short later in
         let few : old.next ≤ 2 = subst (λ c. HasCheck types statement old.next c one) none come.known.has_check in
         let known : IsKnownTo types statement old.next (Some checked) old.rows one = record {
@@ -258,16 +262,16 @@ module _ (types : List SetType) (statement : Statement) (holdings : Holdings) wh
           has_rows = found-rows old.next checked old.rows one few (subst (λ c. HasRows types statement old.next c old.rows one) none come.known.has_rows);
         } in
         record {
-          on = omega (arith, same);
-          reached = omega (arith, same, later);
-          passed = λ q after before. absurd (omega (arith, same, after, before));
+          on = omega arith;
+          reached = later;
+          passed = λ q after before. absurd (omega (arith, after, before));
           come = record {
             setting = come.setting;
-            seen = subst (λ p. IsSeenBy types holdings statement p one) (sym same) come.seen;
+            seen = come.seen;
             part = come.part;
-            known = subst (λ c. IsKnown types statement c one) (sym is) known;
+            known = subst (λ c. IsKnownTo types statement old.next c old.rows one) (sym is) known;
           };
-          seen = subst (λ p. IsSeenBy types holdings statement p other) (sym same) seen;
+          seen = seen;
         };
   }
 
@@ -358,33 +362,31 @@ module _ (types : List SetType) (statement : Statement) (holdings : Holdings) wh
             (passes-over (Err stop) passing one other come seen later);
       }
 
-      pub rows_found : (new : Course) (rows : List (ℕ × List ℕ)) → HasPassing holdings checked (Ok rows)
-          → new ≡ record { next = old.next; checked = old.checked; rows = Some rows } → IsStep 4 4 types statement holdings old new (Ok tt)
-      rows_found new rows passing is = record {
+      pub rows_found : (found : Option (List (ℕ × List ℕ))) (rows : List (ℕ × List ℕ)) → HasPassing holdings checked (Ok rows) → found ≡ Some rows
+          → IsStep 4 4 types statement holdings old (record { next = old.next; checked = old.checked; rows = found }) (Ok tt)
+      rows_found found rows passing is = record {
         goes = λ one other come seen later.
-            let same : new.next ≡ old.next = ap (λ (c : Course). c.next) is in
             let known = known-here one come.known in
             let few : old.next ≤ 4 = (none-here one come).0 in
-            let found : IsKnownTo types statement old.next (Some checked) (Some rows) one = record {
+            let passes : IsKnownTo types statement old.next (Some checked) (Some rows) one = record {
               some = known.some;
               within = known.within;
               short = known.short;
               has_check = known.has_check;
               has_rows = (later, passes-over (Ok rows) passing one one come come.seen later, λ last. absurd (omega (arith, few, last)));
             } in
-            let kept_found : IsKnownTo types statement old.next old.checked (Some rows) one =
-            subst (λ c. IsKnownTo types statement old.next c (Some rows) one) (sym kept) found in
             record {
-              on = omega (arith, same);
-              reached = omega (arith, same, later);
-              passed = λ q after before. absurd (omega (arith, same, after, before));
+              on = omega arith;
+              reached = later;
+              passed = λ q after before. absurd (omega (arith, after, before));
               come = record {
                 setting = come.setting;
-                seen = subst (λ p. IsSeenBy types holdings statement p one) (sym same) come.seen;
+                seen = come.seen;
                 part = come.part;
-                known = subst (λ c. IsKnown types statement c one) (sym is) kept_found;
+                known = subst (λ r. IsKnownTo types statement old.next old.checked r one) (sym is)
+                    (subst (λ c. IsKnownTo types statement old.next c (Some rows) one) (sym kept) passes);
               };
-              seen = subst (λ p. IsSeenBy types holdings statement p other) (sym same) seen;
+              seen = seen;
             };
       }
 
