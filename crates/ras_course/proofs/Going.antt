@@ -104,37 +104,22 @@ module _ (types : List SetType) (statement : Statement) (holdings : Holdings) wh
   }
   goes-joined to one other old middle new on passed (Err coming) goes = comes-before other old middle new on passed coming goes
 
-  pub then_step : (from mid to : ℕ) (old middle new : Course) (result : Result (Unit {0}) Coming) → IsStep from mid types statement holdings old middle (Ok tt)
+module _ {types : List SetType} {statement : Statement} {holdings : Holdings} {old : Course} where
+  -- one after another
+  pub joined : {from mid to : ℕ} {middle new : Course} {result : Result (Unit {0}) Coming} → IsStep from mid types statement holdings old middle (Ok tt)
       → IsStep mid to types statement holdings middle new result → IsStep from to types statement holdings old new result
-  then_step from mid to old middle new result first second = record {
+  joined {mid = mid} {to = to} {middle = middle} {new = new} {result = result} first second = record {
     goes = λ one other come seen least.
         let past : IsPast mid types statement holdings one other old middle = first.goes one other come seen least in
-        goes-joined to one other old middle new past.on past.passed result (second.goes one other past.come past.seen past.reached);
+        goes-joined types statement holdings to one other old middle new past.on past.passed result (second.goes one other past.come past.seen past.reached);
   }
 
   -- what stops a step stops it, however far it was to go
-  pub step_stops : (from to further : ℕ) (old new : Course) (coming : Coming) → IsStep from to types statement holdings old new (Err coming)
+  pub stopped : {from to further : ℕ} {new : Course} {coming : Coming} → IsStep from to types statement holdings old new (Err coming)
       → IsStep from further types statement holdings old new (Err coming)
-  step_stops from to further old new coming step = record { goes = step.goes }
+  stopped step = record { goes = step.goes }
 
-  -- a course that has come further already stays
-  pub stays : (from to : ℕ) (course : Course) → (from ≤ course.next → to ≤ course.next) → IsStep from to types statement holdings course course (Ok tt)
-  stays from to course reaches = record {
-    goes = λ one other come seen least. record {
-      on = omega arith;
-      reached = reaches least;
-      passed = λ q after before. absurd (omega (arith, after, before));
-      come = come;
-      seen = seen;
-    };
-  }
-
-  pub no_memory : (from to : ℕ) (old new : Course) → IsStep from to types statement holdings old new (Err comings.Memory)
-  no_memory from to old new = record { goes = λ one other come seen least. tt }
-
-  pub no_memory_last : (course : Course) → IsFinish types statement holdings course comings.Memory
-  no_memory_last course = record { finishes = λ one other come seen last. tt }
-
+module _ (types : List SetType) (statement : Statement) (holdings : Holdings) where
   -- ---- the whole way
 
   pub comes_last : (old new : Course) (coming : Coming) → IsStep 1 5 types statement holdings old new (Ok tt) → IsFinish types statement holdings new coming
@@ -142,12 +127,7 @@ module _ (types : List SetType) (statement : Statement) (holdings : Holdings) wh
       → ComesOf types statement holdings other old new coming
   comes_last old new coming step finish one other come seen =
       let past : IsPast 5 types statement holdings one other old new = step.goes one other come seen come.known.some in
-      comes-before other old new new past.on past.passed coming (finish.finishes one other past.come past.seen past.reached)
-
-  pub comes_sooner : (old new : Course) (coming : Coming) → IsStep 1 5 types statement holdings old new (Err coming)
-      → (one other : Database) → IsComeTo types statement holdings old one → IsSeenBy types holdings statement old.next other
-      → ComesOf types statement holdings other old new coming
-  comes_sooner old new coming step one other come seen = step.goes one other come seen come.known.some
+      comes-before types statement holdings other old new new past.on past.passed coming (finish.finishes one other past.come past.seen past.reached)
 
   -- ---- past a phase
 
