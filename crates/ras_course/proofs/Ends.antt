@@ -1,6 +1,5 @@
 -- Where a statement ends with an answer, and what it writes.
-use Rattle.std.proofs.Common.{◌≡◌, ◌≢◌, ℕ, zero, suc, ◌<◌, ◌≤◌, inl, inr, true, false, Bool, if◌then◌else◌, List, [], ◌∷◌, map, Option, Some, None, Result, Ok, Err, refl, sym, ap, ◌∙◌, subst, arith}
-use Rattle.std.proofs.lemmas.Bool.{cases_eq}
+use Rattle.std.proofs.Common.{◌≡◌, ℕ, zero, suc, ◌≤◌, true, false, Bool, if◌then◌else◌, List, [], map, Result, Ok, Err, refl, sym, ap, ◌∙◌, arith}
 use Rattle.ras_catalog.specs.declared.fault.CheckError.{CheckError}
 use Rattle.ras_catalog.specs.declared.fault.CheckError.TheVariants as checks
 use Rattle.ras_catalog.specs.Outcome.{IsChecked}
@@ -10,7 +9,7 @@ use Rattle.ras_course.specs.declared.course.Course.{Course}
 use Rattle.ras_course.proofs.Replies.{asked_leaves, asked_on, named_on, values_leave}
 use Rattle.ras_reach.proofs.AskedReplies.{asked_reply, reply_as_checked}
 use Rattle.ras_reach.specs.Asked.{asked_at}
-use Rattle.ras_reach.specs.Needs.{GivesLocks, StopsAsNeeds, first_asked, limited_to}
+use Rattle.ras_reach.specs.Needs.{StopsAsNeeds, first_asked}
 use Rattle.ras_reach.specs.declared.first.NeedsFault.{NeedsFault}
 use Rattle.ras_reach.specs.declared.first.NeedsFault.TheVariants as faults
 use Rattle.ras_rows.specs.declared.stop.Stop.{Stop}
@@ -26,7 +25,6 @@ use Rattle.ras_syntax.specs.declared.statement.Statement.{Statement}
 use Rattle.ras_syntax.specs.declared.types.SetType.{SetType}
 use Rattle.ras_syntax.specs.declared.typed.Checked.{Checked}
 use Rattle.spec_expressions.specs.Database.{Database}
-use Rattle.spec_expressions.specs.Check.{CheckMisfit}
 use Rattle.spec_statements.specs.Effects.{effect_of_checked}
 use Rattle.spec_statements.specs.Locks.{Lock}
 use Rattle.spec_statements.specs.Machine.{checked_over, effect_after_check, effect_of, first_list, is_too_long, list_after_check, needs_of, reply_after_check, reply_of}

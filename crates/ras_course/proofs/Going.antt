@@ -1,10 +1,10 @@
 -- The steps of a course, by what each call gives.
-use Rattle.std.proofs.Common.{◌≡◌, ◌≢◌, ℕ, zero, suc, ◌<◌, ◌≤◌, inl, inr, false, List, [], ◌∷◌, Option, Some, None, Result, Ok, Err, refl, sym, ap, ◌∙◌, subst, arith}
+use Rattle.std.proofs.Common.{◌≡◌, ◌≢◌, ℕ, suc, ◌≤◌, inl, inr, false, List, [], Option, Some, None, Result, Ok, Err, refl, sym, ap, ◌∙◌, subst, arith}
 use Rattle.std.specs.Option.{is_some}
 use Rattle.std.proofs.lemmas.Bool.{cases_lt}
 use Rattle.ras_catalog.specs.declared.fault.CheckError.{CheckError}
 use Rattle.ras_catalog.specs.Outcome.{IsChecked}
-use Rattle.ras_course.specs.Courses.{ComesOf, HasCheck, HasRows, IsAnswerOf, IsAskedFor, IsComeTo, IsKnown, IsKnownTo, IsWritten, NeedsNothing}
+use Rattle.ras_course.specs.Courses.{ComesOf, HasCheck, HasRows, IsAskedFor, IsComeTo, IsKnown, IsKnownTo, NeedsNothing}
 use Rattle.ras_course.specs.Steps.{GoesOver, IsFinish, IsHandedOut, IsPast, IsStep, coming_of_check, coming_of_fault, coming_of_stop}
 use Rattle.ras_course.specs.declared.course.Coming.{Coming}
 use Rattle.ras_course.specs.declared.course.Coming.TheVariants as comings
@@ -31,7 +31,7 @@ use Rattle.spec_expressions.specs.Database.{Database}
 use Rattle.spec_statements.specs.Locks.{Lock}
 use Rattle.spec_statements.specs.Machine.{checked_over, first_list, is_too_long, needs_of, reply_of}
 use Rattle.spec_statements.specs.ReachLaw.{AreNamedIn}
-use Rattle.spec_statements.specs.Statement.{StatementTree, statement_tree_of}
+use Rattle.spec_statements.specs.Statement.{statement_tree_of}
 use Rattle.spec_views.specs.Holdings.{Holdings, IsSeenBy, StandsFor, lists_before, passing_by}
 use Rattle.law_effects.proofs.Phases.{first_is}
 use Rattle.law_views.proofs.Seen.{earlier_listed}
@@ -67,7 +67,7 @@ module _ (types : List SetType) (statement : Statement) (holdings : Holdings) wh
   nothing-joined : (database : Database) (a b c : ℕ) → NeedsNothing types statement a b database → NeedsNothing types statement b c database
       → NeedsNothing types statement a c database
   nothing-joined database a b c first second q from to =
-      elim (cases_lt q b) [ | inl before ↦ first q from before | inr behind ↦ second q behind to ]
+      elim (cases_lt q b) [ inl before ↦ first q from before | inr behind ↦ second q behind to ]
 
   comes-before : (other : Database) (old middle new : Course) → old.next ≤ middle.next → NeedsNothing types statement old.next middle.next other → (coming : Coming)
       → ComesOf types statement holdings other middle new coming → ComesOf types statement holdings other old new coming

@@ -1,5 +1,5 @@
 -- What is known of a statement, over each database that is seen and from one phase to the next.
-use Rattle.std.proofs.Common.{◌≡◌, ◌≢◌, ℕ, zero, suc, ◌<◌, ◌≤◌, inl, inr, true, false, Bool, if◌then◌else◌, List, [], ◌∷◌, ◌++◌, Option, Some, None, Result, Ok, Err, refl, sym, ap, ◌∙◌, subst, arith}
+use Rattle.std.proofs.Common.{◌≡◌, ◌≢◌, ℕ, suc, ◌≤◌, inl, inr, false, List, [], ◌++◌, Option, Some, None, Ok, Err, refl, sym, ap, ◌∙◌, subst, arith}
 use Rattle.std.proofs.lemmas.Bool.{cases_eq}
 use Rattle.std.proofs.lemmas.List.{append-nil}
 use Rattle.ras_course.specs.Courses.{HasCheck, HasRows, IsComeTo, IsKnown, IsKnownTo}
@@ -8,7 +8,6 @@ use Rattle.ras_course.proofs.Replies.{passing_fits, reply_fits}
 use Rattle.ras_eval.specs.Seen.{too_many_locks}
 use Rattle.ras_reach.proofs.AskedReplies.{reply_as_checked}
 use Rattle.ras_reach.specs.Asked.{asked_at}
-use Rattle.ras_domain.specs.declared.lock.LockName.{LockName}
 use Rattle.ras_syntax.specs.declared.statement.Statement.{Statement}
 use Rattle.ras_syntax.specs.declared.types.SetType.{SetType}
 use Rattle.ras_syntax.specs.declared.typed.Checked.{Checked}
@@ -16,9 +15,8 @@ use Rattle.spec_expressions.specs.Database.{Database}
 use Rattle.spec_shown.specs.Shown.{IsPartOf}
 use Rattle.spec_statements.specs.Locks.{Lock}
 use Rattle.spec_statements.specs.Machine.{checked_over, first_list, is_too_long, needs_of, reply_of}
-use Rattle.spec_statements.specs.ReachLaw.{AreNamedIn, IsSetting, Names}
-use Rattle.spec_statements.specs.Reply.{Reply}
-use Rattle.spec_statements.specs.Statement.{StatementTree, statement_tree_of}
+use Rattle.spec_statements.specs.ReachLaw.{AreNamedIn, IsSetting}
+use Rattle.spec_statements.specs.Statement.{statement_tree_of}
 use Rattle.spec_statements.specs.Validity.{IsValidFor}
 use Rattle.spec_views.specs.Holdings.{Holdings, IsSeenBy, StandsFor, lists_before, passing_by}
 use Rattle.law_views.proofs.Seen.{earlier_listed, listed_before, seen_answers, seen_check, seen_passing}
@@ -74,7 +72,7 @@ module _ (types : List SetType) (statement : Statement) (holdings : Holdings) (n
     has.0,
     sym (seen_check types statement holdings one other (short has.0) (seen_earlier types statement holdings one 2 next has.0 seen)
         (seen_earlier types statement holdings other 2 next has.0 also))
-    ∙ has.1,
+        ∙ has.1,
   )
 
   module _ (checked : Checked) (check : HasCheck types statement next (Some checked) one) where
@@ -154,7 +152,7 @@ module _ (types : List SetType) (statement : Statement) (database : Database) wh
     rows-behind : (rows : Option (List (ℕ × List ℕ))) → (phase ≡ 4 → rows ≢ None) → HasRows types statement phase (Some checked) rows database
         → HasRows types statement (suc phase) (Some checked) rows database
     rows-behind None some has =
-        let before : suc phase ≤ 4 = elim (cases_eq phase 4) [ | inl fourth ↦ absurd (some fourth refl) | inr differs ↦ omega (arith, within, differs) ] in
+        let before : suc phase ≤ 4 = elim (cases_eq phase 4) [ inl fourth ↦ absurd (some fourth refl) | inr differs ↦ omega (arith, within, differs) ] in
         (before, passing-fits)
     rows-behind (Some rows) some has = (omega (arith, has.0), has.1, reply-fits)
 

@@ -1,5 +1,5 @@
 -- Which replies come where, by the definitions: a reply in place of a list, and those that come behind the lists.
-use Rattle.std.proofs.Common.{◌≡◌, ◌≢◌, ℕ, zero, suc, ◌<◌, ◌≤◌, ℤ, inl, inr, true, false, Bool, if◌then◌else◌, List, [], ◌∷◌, Option, Some, None, Result, Ok, Err, refl, sym, ap, ◌∙◌, subst, arith}
+use Rattle.std.proofs.Common.{◌≡◌, ◌≢◌, ℕ, zero, suc, ◌≤◌, ℤ, inl, inr, List, [], ◌∷◌, Option, Result, Ok, Err, refl, sym, ap, ◌∙◌, subst, arith}
 use Rattle.std.proofs.lemmas.Bool.{cases_eq}
 use Rattle.ras_cells.specs.declared.cell.Cell.{Cell}
 use Rattle.ras_cells.specs.declared.cell.CellFault.{CellFault}
@@ -126,11 +126,10 @@ module _ (tree : StatementTree) (database : Database) where
 
   bodies-asked : (list : List Lock) → asked_in_4 tree database ≡ Ok list → (plans : List Plan) × (until_bodies tree database ≡ Ok plans)
   bodies-asked list is =
-      let (plans, are_plans, last) = bind_ok (until_plans tree database) (λ plans. limited_locks tree (phase_4_list tree plans)) list is in
-      (
+      let (plans, are_plans, last) = bind_ok (until_plans tree database) (λ plans. limited_locks tree (phase_4_list tree plans)) list is in (
         plans,
         ap (λ (r : Result (List Plan) Reply). r >>= λ plans. limited_locks tree (phase_4_list tree plans) >>= λ asked. Ok plans) are_plans
-        ∙ ap (λ (l : Result (List Lock) Reply). l >>= λ asked. Ok plans) last,
+            ∙ ap (λ (l : Result (List Lock) Reply). l >>= λ asked. Ok plans) last,
       )
 
   fourth_fits : (list : List Lock) → asked_in_4 tree database ≡ Ok list → reply_of_checked tree database ≢ too_many_locks tree

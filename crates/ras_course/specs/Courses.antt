@@ -1,5 +1,5 @@
 -- The way of one statement through its phases: what is known of it before a phase, and what comes of going on.
-use Rattle.std.specs.Prelude.{◌≡◌, ◌≢◌, ℕ, suc, ◌<◌, ◌≤◌, false, List, [], Option, Some, None, Result, Ok, Err}
+use Rattle.std.specs.Prelude.{◌≡◌, ◌≢◌, ℕ, suc, ◌<◌, ◌≤◌, false, List, [], Option, Some, None, Ok, Err}
 use Rattle.law_work.specs.Writes.{writes_in, writings_of}
 use Rattle.ras_course.specs.declared.course.Coming.{Coming}
 use Rattle.ras_course.specs.declared.course.Coming.TheVariants as comings
