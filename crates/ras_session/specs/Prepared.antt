@@ -49,7 +49,8 @@ pub record IsBeginPrepared (programs : Programs) (script : ReadScript) (past : H
   pub tied : IsTied programs script past steps session
   pub number_is : number ≡ session.number
   pub at : k ≡ session.next
-  pub idle : live_in (session_place_of session.place) ≡ None
+  pub attempts : Option ℕ
+  pub place : session_place_of session.place ≡ free attempts
   pub statement : Statement
   pub read : session.statement ≡ Some statement
 

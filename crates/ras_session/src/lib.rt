@@ -1,10 +1,13 @@
 //! Sessions: what each asks of the core, and what is served.
 #![tactic(auto)]
 
+mod asking;
 pub mod laws;
+mod reading;
 mod request;
 mod serving;
 mod session;
+mod steps;
 
 pub use request::{CoreReply, Request};
 pub use serving::serve;

@@ -79,7 +79,18 @@ impl Session {
             → IsTied programs (script_in workload.now self.old.number) past steps self.old
             → IfOk result (λ request. IsPreparedRequest programs (script_in workload.now self.old.number) past steps self.new request) }
     {
-        Err(AllocError)
+        match self.place {
+            Place::Free { attempts: _ } => self.prepare_free(alloc, workload),
+            Place::Lost => Err(AllocError),
+            Place::Inside { opened, granted: _ } => {
+                self.prepare_inside(rt, alloc, workload, workers, gate, opened)
+            }
+            Place::Leaving { opened } => Ok(Request::Abort { t: opened.t }),
+            Place::Own { t, granted: _ } => {
+                self.prepare_own(rt, alloc, workload, workers, gate, t)
+            }
+            Place::Ending { t, closed } => Ok(self.prepare_ending(alloc, t, closed)),
+        }
     }
 
     /// Takes the reply to the last request: it steps, and where locks were granted the piece is taken into the
