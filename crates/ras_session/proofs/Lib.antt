@@ -1,0 +1,4 @@
+pub mod Begins
+pub mod Data
+pub mod Served
+pub mod Ties

@@ -2,6 +2,7 @@
 use Rattle.std.specs.Prelude.{◌≡◌, ℕ, suc, Bool as Truth, false, List, [], ◌∷◌, Option, Some, None, IsTrue}
 use Rattle.ras_store.specs.Databases.{rewrites_of}
 use Rattle.ras_store.specs.declared.change.Change.{Change}
+use Rattle.ras_store.specs.declared.workload.Workload.{Workload}
 use Rattle.ras_syntax.specs.declared.answer.Answer.{Answer}
 use Rattle.ras_syntax.specs.declared.event.Event.{Event}
 use Rattle.ras_syntax.specs.declared.event.Event.TheVariants.{Answered}
@@ -10,7 +11,8 @@ use Rattle.ras_syntax.specs.declared.statement.Word.TheVariants as words
 use Rattle.ras_course.specs.Courses.{IsKnown}
 use Rattle.ras_walk.specs.Places.{session_place_of}
 use Rattle.spec_histories.specs.History.{History, Programs, committed_database, own_database}
-use Rattle.spec_histories.specs.Legal.{IsDueList, MayFollow}
+use Rattle.spec_histories.specs.Legal.{IsDueList, IsLegal, MayFollow}
+use Rattle.spec_histories.specs.Serializable.{HasRoom}
 use Rattle.spec_statements.specs.Locks.{Lock}
 use Rattle.spec_statements.specs.Reply.{reply_of_answer}
 use Rattle.spec_views.specs.Sessions.{IsWorkOf}
@@ -18,10 +20,11 @@ use Rattle.spec_views.specs.Work.{RewritesTo, TakenPiece}
 use Rattle.spec_views.specs.Work.{Work as WorkSeen}
 use Rattle.spec_sessions.specs.Walk.{ReadScript, ScriptItem, SessionPlace, Step, by_success, data_statement, ending, free, inside, is_due_commit, is_over, is_success, item_at, item_of_form, leaving, live_in, lost, made, own, quiet, session_word, the_end}
 use Rattle.law_walks.specs.Session.{IsUnderWay}
+use Rattle.ras_core.specs.States.{AreProgramsOf, FIRST_IDENTIFIERS}
 use Rattle.ras_session.specs.declared.request.Request.{Request}
 use Rattle.ras_session.specs.declared.request.Request.TheVariants.{Begin, Ask, Finish, GiveUp, Commit, Abort, Local, Ended}
 use Rattle.ras_session.specs.declared.session.Session.{Session}
-use Rattle.ras_session.specs.Tied.{IsHoldingOwn, IsNextStatement, IsTied, IsWalking, TellNoWant, session_with, walked_by, work_seen}
+use Rattle.ras_session.specs.Tied.{IsHoldingOwn, IsNextStatement, IsTied, IsWalking, TellNoWant, script_in, session_with, walked_by, work_seen}
 
 -- ---- what was read
 
@@ -114,6 +117,13 @@ IsPreparedRequest programs script past steps session (Abort t) = IsAbortPrepared
 IsPreparedRequest programs script past steps session Local = IsTied programs script past (quiet false ∷ steps) session
 IsPreparedRequest programs script past steps session Ended =
     IsTied programs script past steps session × IsTrue (is_over script (walked_by session).state)
+
+-- a request is prepared in each history in which the session stands
+abbrev pub IsPreparedFor : Workload → Session → Session → Request → Type 0
+IsPreparedFor workload old new request =
+    (programs : Programs) (past : History) (steps : List Step) → AreProgramsOf workload programs → IsLegal programs past
+    → HasRoom FIRST_IDENTIFIERS past → IsTied programs (script_in workload old.number) past steps old
+    → IsPreparedRequest programs (script_in workload old.number) past steps new request
 
 -- ---- replies
 

@@ -31,7 +31,7 @@ use Rattle.law_walks.specs.Session.{asking_in}
 use Rattle.ras_session.specs.declared.request.Request.{Request}
 use Rattle.ras_session.specs.declared.request.Request.TheVariants.{Finish}
 use Rattle.ras_session.specs.declared.session.Session.{Session}
-use Rattle.ras_session.specs.Prepared.{IsPreparedRequest, item_read}
+use Rattle.ras_session.specs.Prepared.{IsPreparedFor, item_read}
 use Rattle.ras_session.specs.Tied.{IsNextStatement, IsTied, TellNoWant, script_in, walked_by}
 
 -- ---- what comes next
@@ -70,13 +70,6 @@ pub record IsAdvanced (old new : Session) (step : Step) : Type 0 where
   pub plenty : TellNoWant old.lines → TellNoWant new.lines
 
 -- ---- a request
-
--- a request is prepared wherever the session stands
-abbrev pub IsPreparedFor : Workload → Session → Session → Request → Type 0
-IsPreparedFor workload old new request =
-    (programs : Programs) (past : History) (steps : List StepOf) → AreProgramsOf workload programs → IsLegal programs past
-    → HasRoom FIRST_IDENTIFIERS past → IsTied programs (script_in workload old.number) past steps old
-    → IsPreparedRequest programs (script_in workload old.number) past steps new request
 
 -- where a data statement of a transaction that may ask comes next, and was read
 abbrev pub IsPreparedIn : Workload → ℕ → Session → Session → Request → Type 0

@@ -5,8 +5,8 @@ ghost use Rattle.ras_store.specs.declared.workload.Workload.{Workload as Workloa
 ghost use Rattle.spec_sessions.specs.Walk.{ending, free, inside, is_success, item_at, own, session_word};
 ghost use Rattle.spec_statements.specs.Reply.{reply_of_answer};
 ghost use Rattle.ras_walk.specs.Places.{closed_seen, opened_seen, session_place_of};
-ghost use Rattle.ras_session.specs.Prepared.{item_read};
-ghost use Rattle.ras_session.specs.Steps.{IsCourseOn, IsPreparedFor, IsPreparedIn, IsTakenOut, IsWrittenOut};
+ghost use Rattle.ras_session.specs.Prepared.{IsPreparedFor, item_read};
+ghost use Rattle.ras_session.specs.Steps.{IsCourseOn, IsPreparedIn, IsTakenOut, IsWrittenOut};
 ghost use Rattle.ras_session.specs.Tied.{script_in};
 
 use crate::request::Request;

@@ -3,12 +3,10 @@ ghost use Rattle.std.specs.Prelude.{◌≡◌, List as ListOf, [], IfOk, IsTrue,
 ghost use Rattle.ras_syntax.specs.declared.types.Script.{Script};
 ghost use Rattle.ras_store.specs.declared.workload.Workload.{Workload as WorkloadSeen};
 ghost use Rattle.spec_histories.specs.History.{History, Programs, nth};
-ghost use Rattle.spec_histories.specs.Legal.{IsLegal};
-ghost use Rattle.spec_histories.specs.Serializable.{HasRoom};
 ghost use Rattle.spec_sessions.specs.Outcomes.{IsWholeWalkOf};
 ghost use Rattle.spec_sessions.specs.Walk.{ReadScript, Step, is_over};
-ghost use Rattle.ras_core.specs.States.{AreProgramsOf, CoreState, FIRST_IDENTIFIERS, IsLegalState};
-ghost use Rattle.ras_session.specs.Prepared.{IsPreparedRequest, StepsTo};
+ghost use Rattle.ras_core.specs.States.{AreProgramsOf, CoreState, IsLegalState};
+ghost use Rattle.ras_session.specs.Prepared.{IsPreparedFor, IsPreparedRequest, StepsTo};
 ghost use Rattle.ras_session.specs.Served.{IsServed};
 ghost use Rattle.ras_session.specs.Tied.{IsTied, script_in, walked_by};
 ghost use Rattle.ras_session.specs.declared.request.Request.{Request as RequestSeen};
@@ -74,10 +72,7 @@ impl Session {
         gate: &G,
     ) -> Result<Request, AllocError>
         ensures number { self.new.number ≡ self.old.number }
-        ensures prepared { (programs : Programs) (past : History) (steps : ListOf Step) → AreProgramsOf workload.now programs
-            → IsLegal programs past → HasRoom FIRST_IDENTIFIERS past
-            → IsTied programs (script_in workload.now self.old.number) past steps self.old
-            → IfOk result (λ request. IsPreparedRequest programs (script_in workload.now self.old.number) past steps self.new request) }
+        ensures prepared { IfOk result (IsPreparedFor workload.now self.old self.new) }
     {
         match self.place {
             Place::Free { attempts: _ } => self.prepare_free(alloc, workload),
