@@ -4,6 +4,7 @@
 mod asking;
 pub mod laws;
 mod reading;
+mod replies;
 mod request;
 mod serving;
 mod session;

@@ -18,7 +18,7 @@ use ras_edges::Gate;
 use ras_outcome::AnswerLine;
 use ras_store::Workload;
 use ras_syntax::Statement;
-use ras_walk::Place;
+use ras_walk::{Happened, Place};
 use ras_work::Work;
 use std::alloc::{AllocError, Global};
 use std::thread::Threads;
@@ -97,7 +97,16 @@ impl Session {
             → IsPreparedRequest programs script old.history steps self.old request → IsServed old new request reply
             → OnOk result (StepsTo programs script old.history new.history steps request self.new) }
     {
-        Err(AllocError)
+        match reply {
+            CoreReply::Begun(t) => self.go_on_anew(alloc, Happened::Begun { t }),
+            CoreReply::Granted(piece) => self.take_granted(alloc, piece),
+            CoreReply::Refused => self.go_on_by(alloc, Happened::Refused),
+            CoreReply::Finished => self.go_on_by(alloc, Happened::Answered { good: self.good }),
+            CoreReply::Committed(n) => self.go_on_anew(alloc, Happened::Committed { n }),
+            CoreReply::Aborted => self.go_on_anew(alloc, Happened::Aborted),
+            CoreReply::Memory => Err(AllocError),
+            CoreReply::Nothing => Ok(()),
+        }
     }
 
     /// Its lines, which are those of its whole walk once that is over.
