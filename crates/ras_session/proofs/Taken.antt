@@ -30,7 +30,7 @@ use Rattle.ras_session.specs.Prepared.{IsAskPrepared}
 use Rattle.ras_session.specs.Replied.{IsGoneOnWith}
 use Rattle.ras_session.specs.Tied.{IsNextStatement, IsTied, session_with, walked_by, work_seen}
 use Rattle.ras_session.proofs.Grants.{granted_holding, granted_work, taken_of}
-use Rattle.ras_session.proofs.Replies.{asking_lives, comes_by, fits_statement, goes, goes_by, if_some, item_there, lives_by, one_number}
+use Rattle.ras_session.proofs.Replied.{asking_lives, comes_by, fits_statement, goes, goes_by, if_some, item_there, lives_by, one_number}
 
 -- ---- what comes of a grant
 
