@@ -1,5 +1,5 @@
 -- The reply to a request that was prepared makes the request's step.
-use Rattle.std.proofs.Common.{◌≡◌, ℕ, false, List, ◌∷◌, sym, ap, subst}
+use Rattle.std.proofs.Common.{◌≡◌, ℕ, List, ◌∷◌, sym, ap, subst}
 use Rattle.ras_store.specs.declared.piece.Piece.{Piece}
 use Rattle.ras_syntax.specs.declared.event.Event.{Event}
 use Rattle.ras_syntax.specs.declared.event.Event.TheVariants as events
@@ -7,7 +7,7 @@ use Rattle.ras_walk.specs.declared.place.Happened.TheVariants as happened
 use Rattle.ras_core.specs.States.{AreProgramsOf, CoreState, FIRST_IDENTIFIERS, IsLegalState}
 use Rattle.spec_histories.specs.History.{History, Programs}
 use Rattle.spec_histories.specs.Legal.{IsLegal}
-use Rattle.spec_sessions.specs.Walk.{ReadScript, Step, made, quiet}
+use Rattle.spec_sessions.specs.Walk.{ReadScript, Step, made}
 use Rattle.ras_session.specs.declared.request.CoreReply.TheVariants as replies
 use Rattle.ras_session.specs.declared.request.Request.{Request}
 use Rattle.ras_session.specs.declared.request.Request.TheVariants.{Begin, Ask, Finish, GiveUp, Commit, Abort, Local, Ended}
@@ -107,18 +107,3 @@ module _ (programs : Programs) (script : ReadScript) (old new : CoreState) (step
       (tied_aborted programs script old.history steps session after t is gone)
   aborted_steps Local is served gone = absurd served
   aborted_steps Ended is served gone = absurd served
-
--- nothing was given where nothing was asked
-module _ (programs : Programs) (script : ReadScript) (old new : CoreState) (steps : List Step) (session : Session) where
-  pub nothing_steps : (request : Request) → IsPreparedRequest programs script old.history steps session request → IsServed old new request replies.Nothing
-      → StepsTo programs script old.history new.history steps request session
-  nothing_steps (Begin number k) is served = absurd served
-  nothing_steps (Ask u k p list) is served = absurd served
-  nothing_steps (Finish u k answer) is served = absurd served
-  nothing_steps (GiveUp u k) is served = absurd is
-  nothing_steps (Commit u changes) is served = absurd served
-  nothing_steps (Abort u) is served = absurd served
-  nothing_steps Local is served = let same : new.history ≡ old.history = ap (λ (s : CoreState). s.history) served in
-      (same, subst (λ (h : History). IsTied programs script h (quiet false ∷ steps) session) (sym same) is)
-  nothing_steps Ended is served = let same : new.history ≡ old.history = ap (λ (s : CoreState). s.history) served in
-      (same, subst (λ (h : History). IsTied programs script h steps session) (sym same) is.0, is.1)
