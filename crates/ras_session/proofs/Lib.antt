@@ -1,4 +1,5 @@
 pub mod Begins
 pub mod Data
+pub mod Places
 pub mod Served
 pub mod Ties
