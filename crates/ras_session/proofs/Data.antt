@@ -28,7 +28,7 @@ use Rattle.ras_walk.specs.Places.{session_place_of}
 use Rattle.ras_work.specs.Works.{IsApplied, IsChangedWork, IsOwnSeen, work_changes, work_kept}
 use Rattle.ras_work.specs.declared.work.Work.{Work}
 use Rattle.spec_expressions.specs.Database.{Database}
-use Rattle.spec_histories.specs.History.{History, Programs, committed_database, events_of, has_phase, is_data, nth, own_database, program_needs}
+use Rattle.spec_histories.specs.History.{History, Programs, answered_statements, committed_database, events_of, has_phase, is_data, nth, own_database, program_needs}
 use Rattle.spec_histories.specs.Legal.{IsDueList, IsGoingOn, IsLegal, MayFollow}
 use Rattle.spec_histories.specs.Serializable.{ArePrograms, HasRoom}
 use Rattle.spec_shown.specs.Shown.{IsPartOf}
@@ -99,7 +99,7 @@ seen_earlier types view statement database p q below is = record {
 -- what a work holds of its own is a part of the transaction's own database
 module _ (programs : Programs) (bound : ℕ) (past : History) (t : ℕ) (pieces : List TakenPiece) (work : Work) (are : ArePrograms programs bound)
     (room : HasRoom bound past) (legal : IsLegal programs past) (is : IsWorkOf programs past t (work_seen pieces work)) (holding : IsHoldingOwn pieces work) where
-  over : IsWorkOver programs _ (work_seen pieces work) (committed_database programs past)
+  over : IsWorkOver programs (answered_statements programs (events_of t past)) (work_seen pieces work) (committed_database programs past)
   over = is.is_work (committed_database programs past) (legal_good programs bound past are room legal).ready.valid is.pieces
 
   written_there : (name : LockName) → is_written (work_changes work) name ≡ true
@@ -139,7 +139,7 @@ module _ (pieces : List TakenPiece) (old new : Work) (more : List Change) (chang
   written_append name = ap (λ changes. is_written changes name) changed.changes ∙ list_any-append _ (work_changes old) more
 
   pub holding_more : IsOwnSeen new → IsHoldingOwn pieces old → IsHoldingOwn pieces new
-  holding_more own is = record { own = own; within = λ name. within name (is.within name) }
+  holding_more keeps is = record { own = keeps; within = λ name. within name (is.within name) }
     where
       within : (name : LockName) → (work_kept old name ≡ None) ⊎ (Names (taken_locks pieces) name ⊎ IsTrue (is_written (work_changes old) name))
           → (work_kept new name ≡ None) ⊎ (Names (taken_locks pieces) name ⊎ IsTrue (is_written (work_changes new) name))
@@ -181,7 +181,7 @@ module _ (programs : Programs) (workload : Workload) (script : ReadScript) (past
     (are : AreProgramsOf workload programs) (legal : IsLegal programs past) (room : HasRoom FIRST_IDENTIFIERS past)
     (tied : IsTied programs script past steps session) (asking : asking_in (session_place_of session.place) ≡ Some t)
     (statement : Statement) (read : session.statement ≡ Some statement) (is_data_form : item_of_form statement.form ≡ data_statement) where
-  value : ℕ → SessionValue
+  abbrev value : ℕ → SessionValue
   value phase = session_with script (work_seen tied.pieces session.work) phase session
 
   way : (phase : ℕ) → IsUnderWay (value phase) t statement
@@ -194,10 +194,10 @@ module _ (programs : Programs) (workload : Workload) (script : ReadScript) (past
   here : IsSessionOf programs past (value session.course.next)
   here = tied.walking.is_session
 
-  view : Holdings
+  abbrev view : Holdings
   view = holdings_of (work_kept session.work)
 
-  own_one : Database
+  abbrev own_one : Database
   own_one = own_database programs past t
 
   seen : IsSeenBy programs.types view statement session.course.next own_one

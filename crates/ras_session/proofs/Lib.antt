@@ -2,6 +2,7 @@ pub mod Begins
 pub mod Data
 pub mod Grants
 pub mod Others
+pub mod Places
 pub mod Replied
 pub mod Served
 pub mod Stepped

@@ -1,13 +1,13 @@
 -- A session that goes on stands in the history still.
-use Rattle.std.proofs.Common.{◌≡◌, ◌≢◌, ℕ, ◌≤◌, inl, inr, true, false, List, [], ◌∷◌, ◌++◌, map, Option, Some, None, Result, Ok, refl, sym, ap, ◌∙◌, subst, arith}
-use Rattle.std.specs.Prelude.{IfSome, IsTrue}
+use Rattle.std.proofs.Common.{◌≡◌, ◌≢◌, ℕ, ◌≤◌, inl, inr, true, false, List, [], ◌∷◌, ◌++◌, map, Option, Some, None, Result, Ok, Err, refl, sym, ap, ◌∙◌, subst, arith}
+use Rattle.std.specs.Prelude.{IfOk, IfSome, IsTrue, OnOk}
 use Rattle.ras_domain.specs.declared.lock.LockName.{LockName}
 use Rattle.ras_syntax.specs.declared.statement.Statement.{Statement}
 use Rattle.ras_syntax.specs.declared.types.SetType.{SetType}
 use Rattle.ras_store.specs.declared.workload.Workload.{Workload}
 use Rattle.ras_course.specs.Courses.{IsKnown}
 use Rattle.ras_course.specs.declared.course.Course.{Course}
-use Rattle.ras_walk.specs.Places.{item_seen, session_place_of, step_seen}
+use Rattle.ras_walk.specs.Places.{after_of, item_seen, session_place_of, step_seen}
 use Rattle.ras_walk.specs.declared.place.Item.{Item}
 use Rattle.ras_walk.specs.declared.place.Step.{Step}
 use Rattle.ras_work.specs.declared.work.Work.{Work}
@@ -15,7 +15,7 @@ use Rattle.spec_expressions.specs.Database.{Database}
 use Rattle.spec_histories.specs.History.{History, Programs, own_database}
 use Rattle.spec_views.specs.Work.{Work as WorkSeen}
 use Rattle.spec_sessions.specs.Outcomes.{IsWalkOf, events_in, session_events}
-use Rattle.spec_sessions.specs.Walk.{Line, LineReply, ReadScript, State, Walked, item_at, line_for, quiet, step_from, walk}
+use Rattle.spec_sessions.specs.Walk.{Line, LineReply, ReadScript, State, Walked, after_quiet, item_at, line_for, quiet, step_from, walk}
 use Rattle.spec_sessions.specs.Walk.{Step as StepOf}
 use Rattle.law_walks.specs.Session.{IsSessionOf, SessionValue, session_after}
 use Rattle.law_walks.proofs.Goes.{session_tells, walks_on}
@@ -57,7 +57,7 @@ prepared_behind workload old mid new item request read behind programs past step
 
 -- ---- a step
 
-valued : ReadScript → ℕ → Walked → WorkSeen → ℕ → SessionValue
+abbrev valued : ReadScript → ℕ → Walked → WorkSeen → ℕ → SessionValue
 valued script number walked work phase = record { number = number; script = script; walked = walked; work = work; phase = phase }
 
 -- the value behind a step is that of the session that went it
@@ -114,3 +114,21 @@ tied_told programs script past steps old new step is comes tied = record {
   read = statement_moved script old new step is tied.read;
   plenty = is.plenty tied.plenty;
 }
+
+-- ---- of results
+
+pub on_ok : {A E : Type 0} (r : Result A E) (P Q : Type 0) → (P → Q) → OnOk r P → OnOk r Q
+on_ok (Ok x) P Q gives holds = gives holds
+on_ok (Err e) P Q gives holds = holds
+
+pub if_ok : {A E : Type 0} (r : Result A E) (P Q : A → Type 0) → ((x : A) → P x → Q x) → IfOk r P → IfOk r Q
+if_ok (Ok x) P Q gives holds = gives x holds
+if_ok (Err e) P Q gives holds = holds
+
+pub told_there : (old new : Session) (step : Step) (item : Item) (found : Option Step)
+    → after_of found ≡ after_quiet old.next (item_seen item) (session_place_of old.place) false → found ≡ Some step → IsAdvanced old new step
+    → (programs : Programs) (script : ReadScript) (past : History) (steps : List StepOf) → item_seen item ≡ item_at script old.next
+    → IsTied programs script past steps old → IsTied programs script past (quiet false ∷ steps) new
+told_there old new step item found comes is advanced programs script past steps seen tied =
+    tied_told programs script past steps old new step advanced
+    (ap (λ i. after_quiet old.next i (session_place_of old.place) false) (sym seen) ∙ sym comes ∙ ap after_of is) tied

@@ -38,9 +38,14 @@ abbrev pub HasItem : ReadScript → ℕ → Option Statement → SessionPlace �
 HasItem script k read (inside opened granted) = item_read read ≡ item_at script k
 HasItem script k read place = Unit {0}
 
+-- a word is not one at which a transaction commits
+abbrev pub IsAbortWord : ScriptItem → (bad : Option ℕ) → Type 0
+IsAbortWord (session_word (words.Commit anyway)) bad = is_due_commit anyway bad ≡ false
+IsAbortWord item bad = Unit {0}
+
 -- a transaction is not aborted where it is to commit
 abbrev pub IsAbortAt : ScriptItem → SessionPlace → Type 0
-IsAbortAt (session_word (words.Commit anyway)) (inside opened granted) = is_due_commit anyway opened.bad ≡ false
+IsAbortAt item (inside opened granted) = IsAbortWord item opened.bad
 IsAbortAt item (own t granted) = ⊥
 IsAbortAt item (ending t by_success) = ⊥
 IsAbortAt item place = Unit {0}
