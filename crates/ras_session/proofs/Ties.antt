@@ -7,6 +7,7 @@ use Rattle.ras_syntax.specs.declared.types.SetType.{SetType}
 use Rattle.ras_store.specs.declared.workload.Workload.{Workload}
 use Rattle.ras_course.specs.Courses.{IsKnown}
 use Rattle.ras_course.specs.declared.course.Course.{Course}
+use Rattle.ras_course.proofs.Known.{known_at_first}
 use Rattle.ras_walk.specs.Places.{after_of, item_seen, session_place_of, step_seen}
 use Rattle.ras_walk.specs.declared.place.Item.{Item}
 use Rattle.ras_walk.specs.declared.place.Step.{Step}
@@ -84,7 +85,7 @@ pub fresh_known : (types : List SetType) (statement : Statement) (database : Dat
     → course ≡ record { next = 1; checked = None; rows = None } → IsKnown types statement course database
 fresh_known types statement database course is =
     subst (λ (c : Course). IsKnown types statement c database) (sym is)
-    (record { some = omega arith; within = omega arith; has_check = omega arith; has_rows = omega arith })
+    (known_at_first types statement database)
 
 pub statement_moved : (script : ReadScript) (old new : Session) (step : Step) → IsAdvanced old new step → IsNextStatement script old.next old.statement
     → IsNextStatement script new.next new.statement
