@@ -66,11 +66,11 @@ module _ (workload : Workload) (old mid : Session) (item : Item) (read : Reads w
       (λ seen kept same programs past steps are legal room tied.
       begin_there programs (script_in workload mid.number) past steps mid tied attempts (some mid.statement kept) (same ∙ place))
 
-  pub free_begins : (w : WordOf) → item ≡ Word w → IsPreparedFor workload old mid (Begin mid.number mid.next)
-  free_begins w is = begins (word_some item w is)
+  pub free_begins : {w : WordOf} (request : Request) → item ≡ Word w → request ≡ Begin mid.number mid.next → IsPreparedFor workload old mid request
+  free_begins {w = w} request is same = subst (λ r. IsPreparedFor workload old mid r) (sym same) (begins (word_some item w is))
 
-  pub free_data : item ≡ Data → IsPreparedFor workload old mid (Begin mid.number mid.next)
-  free_data is = begins (data_some item is)
+  pub free_data : (request : Request) → item ≡ Data → request ≡ Begin mid.number mid.next → IsPreparedFor workload old mid request
+  free_data request is same = subst (λ r. IsPreparedFor workload old mid r) (sym same) (begins (data_some item is))
 
 -- ---- in a transaction that a word began
 

@@ -5,6 +5,7 @@ ghost use Rattle.ras_store.specs.declared.workload.Workload.{Workload as Workloa
 ghost use Rattle.spec_sessions.specs.Walk.{ending, free, inside, is_success, item_at, own, session_word};
 ghost use Rattle.spec_statements.specs.Reply.{reply_of_answer};
 ghost use Rattle.ras_walk.specs.Places.{closed_seen, opened_seen, session_place_of};
+ghost use Rattle.ras_session.specs.declared.request.Request.TheVariants as requests;
 ghost use Rattle.ras_session.specs.Prepared.{IsPreparedFor, item_read};
 ghost use Rattle.ras_session.specs.Steps.{IsCourseOn, IsPreparedIn, IsTakenOut, IsWrittenOut};
 ghost use Rattle.ras_session.specs.Tied.{script_in};
@@ -124,6 +125,16 @@ impl Session {
         }
     }
 
+    /// That a transaction begins at the next statement.
+    fn begin(&self) -> Request
+        ensures { result ≡ requests.Begin self.now.number self.now.next }
+    {
+        Request::Begin {
+            session: self.number,
+            statement: self.next,
+        }
+    }
+
     /// Where no transaction lives.
     pub(crate) fn prepare_free(
         &mut self,
@@ -137,10 +148,8 @@ impl Session {
         let item = self.read(alloc, workload)?;
         match item {
             Item::End => Ok(Request::Ended),
-            Item::Word(Word::Begin { retry: _ }) | Item::Data => Ok(Request::Begin {
-                session: self.number,
-                statement: self.next,
-            }),
+            Item::Word(Word::Begin { retry: _ }) => Ok(self.begin()),
+            Item::Data => Ok(self.begin()),
             Item::Fault(_) | Item::Word(_) => {
                 self.tell(alloc, item)?;
                 Ok(Request::Local)
