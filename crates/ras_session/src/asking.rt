@@ -216,7 +216,8 @@ impl Session {
         ensures prepared { IfOk result (λ request. (granted : Truth) → session_place_of self.old.place ≡ own t granted
             → IsPreparedFor workload.now self.old self.new request) }
     {
-        match self.read(alloc, workload)? {
+        let item = self.read(alloc, workload)?;
+        match item {
             Item::Data => self.prepare_data(rt, alloc, workload, workers, gate, t),
             Item::End | Item::Fault(_) | Item::Word(_) => Err(AllocError),
         }

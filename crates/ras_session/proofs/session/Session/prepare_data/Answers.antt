@@ -11,8 +11,8 @@ returns-in-Asks-clause-prepared g c =
 
 pub returns-in-Answers-clause-prepared : goal.returns-in-Answers-clause-prepared
 returns-in-Answers-clause-prepared g c =
-    answers_now c.args.workload.now c.args.t c.args.self.now c.go_on.new.self c.in-Answers.answer c.is_good.result
-    (subst (λ coming. IsCourseOn c.args.workload.now.types c.args.self.now c.go_on.new.self coming) c.in-Answers.is c.go_on.ensures) c.is_good.ensures
+    answers_now c.args.workload.now c.args.t c.args.self.now c.go_on.new.self c.in-Answers.answer c.is_good-self.result
+    (subst (λ coming. IsCourseOn c.args.workload.now.types c.args.self.now c.go_on.new.self coming) c.in-Answers.is c.go_on.ensures) c.is_good-self.ensures
 
 pub returns-in-Writes-clause-prepared : goal.returns-in-Writes-clause-prepared
 returns-in-Writes-clause-prepared g c =

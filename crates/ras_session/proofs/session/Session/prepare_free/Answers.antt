@@ -8,5 +8,5 @@ returns-in-Word-Begin-clause-prepared c = λ attempts place.
 
 pub returns-in-Data-clause-prepared : goal.returns-in-Data-clause-prepared
 returns-in-Data-clause-prepared c = λ attempts place.
-    free_data c.args.workload.now c.args.self.now c.read.new.self c.in_ok-item.item c.in_ok-item.ensures.read attempts place c.begin-2.result c.in-Data.is
-    c.begin-2.ensures
+    free_data c.args.workload.now c.args.self.now c.read.new.self c.in_ok-item.item c.in_ok-item.ensures.read attempts place c.begin-in-Data.result c.in-Data.is
+    c.begin-in-Data.ensures
