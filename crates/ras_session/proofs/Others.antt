@@ -1,5 +1,5 @@
 -- What other sessions do leaves a session as it stands.
-use Rattle.std.proofs.Common.{◌≡◌, ℕ, List, ◌++◌, Some, sym, ◌∙◌}
+use Rattle.std.proofs.Common.{ℕ, List, ◌++◌, sym, ◌∙◌}
 use Rattle.ras_syntax.specs.declared.statement.Statement.{Statement}
 use Rattle.ras_course.specs.Courses.{IsKnown}
 use Rattle.ras_course.proofs.Known.{known_over}

@@ -1,6 +1,6 @@
 -- What a reply makes of a session: it stands in the history that has one event more.
-use Rattle.std.proofs.Common.{◌≡◌, ◌⊎◌, ℕ, suc, Bool, true, false, ◌&&◌, List, [], ◌∷◌, ◌++◌, append-nil, Option, Some, None, Result, Ok, inl, refl, sym, ap, ◌∙◌, subst, ◌==◌}
-use Rattle.std.specs.Prelude.{IfSome, IsTrue}
+use Rattle.std.proofs.Common.{◌≡◌, ℕ, Bool, true, false, ◌&&◌, List, [], ◌∷◌, ◌++◌, Option, Some, None, Ok, inl, refl, sym, ap, ◌∙◌, subst, ◌==◌}
+use Rattle.std.specs.Prelude.{IfSome}
 use Rattle.std.proofs.lemmas.Bool.{cond-true, eq-eqb}
 use Rattle.ras_domain.specs.declared.lock.LockName.{LockName}
 use Rattle.ras_domain.specs.declared.lock.Mode.{Mode}
@@ -8,37 +8,31 @@ use Rattle.ras_syntax.specs.declared.answer.Answer.{Answer}
 use Rattle.ras_syntax.specs.declared.event.Event.{Event}
 use Rattle.ras_syntax.specs.declared.event.Event.TheVariants as events
 use Rattle.ras_syntax.specs.declared.statement.Statement.{Statement}
-use Rattle.ras_store.specs.Databases.{Keeps, holdings_of, rewrites_of}
-use Rattle.ras_store.specs.Store.{store_kept}
+use Rattle.ras_store.specs.Databases.{holdings_of, rewrites_of}
 use Rattle.ras_store.specs.declared.change.Change.{Change}
-use Rattle.ras_store.specs.declared.piece.Piece.{Piece}
-use Rattle.ras_store.specs.declared.store.Store.{Store}
-use Rattle.ras_core.specs.Asking.{IsPieceUnder}
 use Rattle.ras_walk.specs.Places.{event_of, session_place_of, step_seen, told_of_event}
 use Rattle.ras_walk.specs.declared.place.Happened.{Happened}
 use Rattle.ras_walk.specs.declared.place.Happened.TheVariants as happened
 use Rattle.ras_walk.specs.declared.place.Step.{Step}
 use Rattle.ras_walk.proofs.Told.{event-told}
 use Rattle.ras_work.specs.declared.work.Work.{Work}
-use Rattle.ras_work.specs.Works.{work_changes, work_kept}
-use Rattle.spec_histories.specs.History.{History, Programs, committed_database, nth, own_database}
+use Rattle.ras_work.specs.Works.{work_kept}
+use Rattle.spec_histories.specs.History.{History, Programs, nth, own_database}
 use Rattle.spec_histories.specs.Legal.{IsLegal}
-use Rattle.spec_histories.specs.Serializable.{ArePrograms, HasRoom}
 use Rattle.spec_statements.specs.Locks.{Lock}
-use Rattle.spec_statements.specs.Reply.{reply_of_answer}
 use Rattle.spec_views.specs.Sessions.{IsWorkOf}
 use Rattle.spec_views.specs.Work.{TakenPiece}
 use Rattle.spec_views.specs.Work.{Work as WorkSeen}
 use Rattle.spec_sessions.specs.Outcomes.{IsWalkOf}
-use Rattle.spec_sessions.specs.Walk.{After, Line, LineReply, ReadScript, ScriptItem, SessionPlace, State, after_event, ending, fits, free, inside, is_live_in, item_at, item_of, leaving, line_for, live_in, lost, made, own, step_from}
+use Rattle.spec_sessions.specs.Walk.{After, LineReply, ReadScript, ScriptItem, SessionPlace, State, after_event, ending, fits, free, inside, is_live_in, item_at, item_of, leaving, line_for, live_in, lost, made, own, step_from}
 use Rattle.spec_sessions.specs.Walk.{Step as StepOf}
 use Rattle.law_views.proofs.Events.{work_begun, work_refused}
-use Rattle.law_walks.specs.Session.{IsSessionOf, SessionValue, asking_in, phase_behind, session_after}
+use Rattle.law_walks.specs.Session.{IsSessionOf, asking_in, phase_behind, session_after}
 use Rattle.law_walks.proofs.Goes.{goes_walk, session_goes}
 use Rattle.law_walks.proofs.Turns.{LivesBy, event-lives}
 use Rattle.ras_session.specs.declared.session.Session.{Session}
 use Rattle.ras_session.specs.Prepared.{HasItem, IsAbortPrepared, IsAskPrepared, IsBeginPrepared, IsCommitPrepared, IsFinishPrepared, item_read}
-use Rattle.ras_session.specs.Replied.{IsGoneOn, IsGoneOnAnew, IsNewWork, IsStepFor}
+use Rattle.ras_session.specs.Replied.{IsGoneOn, IsGoneOnAnew, IsStepFor}
 use Rattle.ras_session.specs.Steps.{IsAdvanced}
 use Rattle.ras_session.specs.Tied.{IsHoldingOwn, IsNextStatement, IsTied, IsWalking, TellNoWant, session_with, walked_by, work_seen}
 use Rattle.ras_session.proofs.Ties.{advanced_to, advanced_walk, fresh_known, statement_moved}

@@ -1,5 +1,5 @@
 -- A grant makes a step of a session, and its work takes the piece.
-use Rattle.std.proofs.Common.{◌≡◌, ℕ, zero, suc, Bool, true, false, List, [], ◌∷◌, ◌++◌, append-nil, Option, Some, None, Ok, refl, sym, ap, ◌∙◌, subst}
+use Rattle.std.proofs.Common.{◌≡◌, ℕ, suc, Bool, true, List, ◌∷◌, ◌++◌, append-nil, Option, Some, None, Ok, refl, sym, ap, ◌∙◌, subst}
 use Rattle.std.specs.Prelude.{IfSome}
 use Rattle.ras_syntax.specs.declared.event.Event.TheVariants as events
 use Rattle.ras_syntax.specs.declared.statement.Statement.{Statement}
@@ -17,9 +17,8 @@ use Rattle.spec_histories.specs.Serializable.{ArePrograms, HasRoom}
 use Rattle.spec_statements.specs.Locks.{Lock}
 use Rattle.spec_views.specs.Sessions.{IsWorkOf}
 use Rattle.spec_views.specs.Work.{TakenPiece}
-use Rattle.spec_views.specs.Work.{Work as WorkSeen}
 use Rattle.spec_sessions.specs.Outcomes.{IsWalkOf}
-use Rattle.spec_sessions.specs.Walk.{After, Line, LineReply, Opened, ReadScript, ScriptItem, SessionPlace, State, Walked, after_event, data_statement, ending, fits, free, inside, item_at, leaving, line_for, live_in, lost, made, own, session_word, the_end, unread}
+use Rattle.spec_sessions.specs.Walk.{Line, LineReply, Opened, ReadScript, ScriptItem, SessionPlace, State, Walked, after_event, data_statement, ending, fits, free, inside, item_at, leaving, line_for, live_in, lost, made, own, session_word, the_end, unread}
 use Rattle.spec_sessions.specs.Walk.{Closed as ClosedOf, by_failure, by_giving_up, by_success}
 use Rattle.spec_sessions.specs.Walk.{Step as StepOf}
 use Rattle.law_histories.proofs.Owners.{mine-own}

@@ -1,5 +1,5 @@
 -- What a reply makes of a session.
-use Rattle.std.specs.Prelude.{◌≡◌, List, [], None, Some, if◌then◌else◌}
+use Rattle.std.specs.Prelude.{◌≡◌, [], None, Some, if◌then◌else◌}
 use Rattle.ras_domain.specs.declared.lock.LockName.{LockName}
 use Rattle.ras_store.specs.Piece.{piece_over}
 use Rattle.ras_store.specs.declared.piece.Piece.{Piece}
