@@ -3,6 +3,7 @@ use Rattle.std.proofs.Common.{◌≡◌, ◌⊎◌, inl, inr, ℕ, suc, ◌<◌,
 use Rattle.std.specs.Option.{option_map}
 use Rattle.law_views.proofs.Seen.{earlier_listed, listed_before}
 use Rattle.ras_course.specs.Courses.{IsAnswerOf, IsAskedFor, IsComeTo, IsWritten}
+use Rattle.ras_course.proofs.Known.{come_at_first}
 use Rattle.ras_course.specs.declared.course.Course.{Course}
 use Rattle.ras_domain.specs.declared.lock.LockName.{LockName}
 use Rattle.ras_setup.specs.OnTheWay.{IsOnTheWay}
@@ -46,12 +47,8 @@ pub way-begins : (types : List SetType) (statement : Statement) (kept : LockName
 way-begins types statement kept course work begins fresh none = record {
   fresh = fresh;
   part = λ name. inl (none name);
-  come = λ database setting keeps. subst (λ c. IsComeTo types statement (holdings_of (work_kept work)) c database) (sym begins) (record {
-    setting = setting;
-    seen = record { valid = setting.valid; stands = λ name named. absurd (omega (arith, named.1.1)) };
-    part = λ name. inl (held-as (work_kept work name) None (none name));
-    known = record { some = omega arith; within = omega arith; has_check = omega arith; has_rows = omega arith };
-  });
+  come = λ database setting keeps. subst (λ c. IsComeTo types statement (holdings_of (work_kept work)) c database) (sym begins)
+      (come_at_first types statement (holdings_of (work_kept work)) database setting (λ name. inl (held-as (work_kept work name) None (none name))));
 }
 
 -- ---- a list
