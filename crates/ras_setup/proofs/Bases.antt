@@ -10,8 +10,10 @@ use Rattle.law_grammar.specs.VerdictOf.{verdict_of}
 use Rattle.law_histories.proofs.Statements.{IsReady, setting_of}
 use Rattle.ras_domain.specs.declared.lock.LockName.{LockName}
 use Rattle.ras_domain.specs.declared.lock.LockName.TheVariants.{Collection, Domain, Tile}
-use Rattle.ras_setup.specs.Runs.{IsBase, IsChangedBy, IsRunTo, IsStatementOf, IsWantedStop, is_word, stop_seen}
+use Rattle.ras_setup.specs.Found.{setup_fault_seen}
+use Rattle.ras_setup.specs.Runs.{IsBase, IsChangedBy, IsRunTo, IsStatementOf, IsWantedFailure, IsWantedStop, is_word, refusal_of, stop_seen}
 use Rattle.ras_setup.specs.declared.fault.Stop.{Stop}
+use Rattle.ras_setup.specs.declared.fault.Stop.TheVariants.{Fault, Memory}
 use Rattle.ras_setup.proofs.Texts.{goes-on, stops}
 use Rattle.ras_store.specs.Databases.{Keeps, holding_kept, holdings_of, rewrites_of}
 use Rattle.ras_store.specs.Kept.{Kept, changed_by_all}
@@ -29,7 +31,7 @@ use Rattle.spec_histories.specs.History.{Programs}
 use Rattle.spec_statements.specs.Machine.{effect_of, reply_of}
 use Rattle.spec_statements.specs.ReachLaw.{IsSetting}
 use Rattle.spec_views.specs.Holdings.{holding_at}
-use Rattle.spec_workloads.specs.Setup.{SetupFault, SetupOutcome, after_form, after_verdict, if_done, set_up}
+use Rattle.spec_workloads.specs.Setup.{SetupFault, SetupOutcome, after_form, after_verdict, if_done, set_up, setup_failed}
 
 -- ---- one statement
 
@@ -136,6 +138,16 @@ module _ (types : List SetType) (texts : List Text) (ran : ℕ) (text : Text) (k
   so-far-stops stop fault wanted seen =
       rest-is ∙ stops types (1 + ran) text (drop (ran + 1) texts) so_far.database fault (wanted (1 + ran) fault seen)
       ∙ ap (λ k. let r : SetupOutcome = Err (k, fault) in r) (let e : 1 + ran ≡ ran + 1 = omega arith in e)
+
+  -- so this is what is refused
+  pub so-far-fails : (stop : Stop) → IsWantedStop (λ k. after_verdict types k (verdict_of text) so_far.database) stop
+      → IsWantedFailure (set_up types 1 texts []) (refusal_of (ran + 1) stop)
+  so-far-fails (Fault why) wanted fault seen = (
+    (ran + 1, setup_fault_seen why),
+    so-far-stops (Fault why) (setup_fault_seen why) wanted refl,
+    let same : Some (setup_failed (ran + 1) (setup_fault_seen why)) ≡ Some fault = seen in cc,
+  )
+  so-far-fails Memory wanted fault seen = absurd cc
 
 pub so-far-ends : (types : List SetType) (texts : List Text) (ran : ℕ) (kept : LockName → Option Kept) → length texts ≤ ran → (so_far : IsSetUpSoFar types texts ran kept)
     → (base : Database) × (set_up types 1 texts [] ≡ Ok base) × Keeps types kept base

@@ -1,5 +1,5 @@
 //! What a statement of a setup changes.
-ghost use Rattle.std.specs.Prelude.{◌≡◌, [], OnOk};
+ghost use Rattle.std.specs.Prelude.{◌≡◌, List, [], OnOk};
 ghost use Rattle.ras_domain.specs.declared.lock.LockName.{LockName as Named};
 ghost use Rattle.ras_course.specs.Courses.{IsWritten};
 ghost use Rattle.ras_course.specs.declared.course.Course.{Course as CourseSeen};
@@ -21,14 +21,15 @@ use ras_edges::Gate;
 use ras_store::{Changes, Computed, Store};
 use ras_syntax::{Answer, Statement, Types};
 use ras_work::Work;
-use std::alloc::Global;
+use std::alloc::{AllocError, Global};
 use std::thread::Threads;
 
 /// How often a statement is asked at most: it asks for a list in each of four phases, and then comes to its end.
 const MOST_ASKED: u32 = 5;
 
-/// Takes what a store has under the names of a list into a work that changed nothing.
-fn take(alloc: Global, store: &Store, list: &LockList, work: &mut Work) -> Result<(), Stop>
+/// Takes what a store has under the names of a list into a work that changed nothing. The error is want of
+/// memory.
+fn take(alloc: Global, store: &Store, list: &LockList, work: &mut Work) -> Result<(), AllocError>
     requires { work_changes work.old ≡ [] }
     ensures taken { OnOk result (Takes (store_kept store.now) list.now (work_kept work.old) (work_kept work.new)) }
     ensures changes { work_changes work.new ≡ [] }
@@ -38,7 +39,7 @@ fn take(alloc: Global, store: &Store, list: &LockList, work: &mut Work) -> Resul
         Ok(()) => Ok(()),
         Err(piece) => {
             drop(piece);
-            Err(Stop::Memory)
+            Err(AllocError)
         }
     }
 }
