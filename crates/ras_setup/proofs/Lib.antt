@@ -1,0 +1,5 @@
+pub mod Asked
+pub mod Bases
+pub mod Shorts
+pub mod Taken
+pub mod Texts
