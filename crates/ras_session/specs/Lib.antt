@@ -1,1 +1,3 @@
 pub mod Served
+pub mod Prepared
+pub mod Tied

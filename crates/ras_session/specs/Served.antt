@@ -10,6 +10,7 @@ use Rattle.spec_statements.specs.Locks.{Lock}
 use Rattle.spec_views.specs.Sessions.{IsIdle}
 use Rattle.spec_views.specs.Work.{RewritesTo}
 use Rattle.ras_core.specs.Asking.{IsGrantOf, IsRefusalOf}
+use Rattle.ras_core.specs.Journal.{is_reserved}
 use Rattle.ras_core.specs.States.{AreProgramsOf, CoreState, IsCommitted, IsPlaceIn, IsReservedIn, IsUnchanged, LeavesOthers, with_closing, with_end, with_event, with_reserved}
 use Rattle.ras_session.specs.declared.request.Request.{Request}
 use Rattle.ras_session.specs.declared.request.Request.TheVariants.{Begin, Ask, Finish, GiveUp, Commit, Abort, Local, Ended}
@@ -51,15 +52,16 @@ pub record HasCommitted (t number : ℕ) (changes : List Change) (old new : Core
   pub made : IsCommitted t number changes old new
   pub others : LeavesOthers old.workload t old.history new.history
 
--- the reply tells which event there was. Without memory there was none, but there may be room for the closing of the statement
+-- the reply tells which event there was. Without memory there was none, but there may be room for the closing of the statement.
+-- Where there was room already, memory was wanted for the asking alone, and never for an answer
 abbrev pub IsServed : CoreState → CoreState → Request → CoreReply → Type 0
 IsServed old new (Begin session k) (Begun t) = HasBegun session k t old new
 IsServed old new (Begin session k) Memory = new ≡ old
 IsServed old new (Ask t k p list) (Granted piece) = IsGrantOf t k p list (with_reserved t k old) new piece
 IsServed old new (Ask t k p list) Refused = IsRefused t k p list (with_reserved t k old) new
-IsServed old new (Ask t k p list) Memory = (new ≡ old) ⊎ (new ≡ with_reserved t k old)
+IsServed old new (Ask t k p list) Memory = ((is_reserved t k old.reserved ≡ false) × (new ≡ old)) ⊎ (new ≡ with_reserved t k old)
 IsServed old new (Finish t k answer) Finished = new ≡ with_closing (events.Answered t k answer) t k (with_reserved t k old)
-IsServed old new (Finish t k answer) Memory = new ≡ old
+IsServed old new (Finish t k answer) Memory = (is_reserved t k old.reserved ≡ false) × (new ≡ old)
 IsServed old new (GiveUp t k) Nothing = new ≡ with_closing (events.GaveUp t k) t k old
 IsServed old new (Commit t changes) (Committed number) = HasCommitted t number changes old new
 IsServed old new (Commit t changes) Memory = IsUnchanged old new

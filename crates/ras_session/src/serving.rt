@@ -32,9 +32,9 @@ fn ask(
     requires { IsServable core.old (requests.Ask t statement phase list) }
     ensures { IsServed core.old core.new (requests.Ask t statement phase list) result }
 {
-    if core.reserve(alloc, t, statement).is_err() {
+    let Ok(()) = core.reserve(alloc, t, statement) else {
         return CoreReply::Memory;
-    }
+    };
     match core.ask(alloc, t, statement, phase, list) {
         Asked::Granted(piece) => CoreReply::Granted(piece),
         Asked::Refused { lock: _, holder: _ } => CoreReply::Refused,
@@ -47,9 +47,9 @@ fn finish(alloc: Global, core: &mut Core, t: u32, statement: u32, answer: Answer
     requires { IsServable core.old (requests.Finish t statement answer) }
     ensures { IsServed core.old core.new (requests.Finish t statement answer) result }
 {
-    if core.reserve(alloc, t, statement).is_err() {
+    let Ok(()) = core.reserve(alloc, t, statement) else {
         return CoreReply::Memory;
-    }
+    };
     core.finish(t, statement, answer);
     CoreReply::Finished
 }
@@ -65,7 +65,8 @@ fn commit(alloc: Global, core: &mut Core, t: u32, changes: Changes) -> CoreReply
 }
 
 /// Makes the core's call that a request names, with one event at most. For `Begin`, `Ask`, `Finish` and
-/// `Commit` the reply may be `Memory`, and then there is no event.
+/// `Commit` the reply may be `Memory`, and then there is no event. It never is for a `Finish` of a statement
+/// for whose answer there is room.
 pub fn serve(alloc: Global, core: &mut Core, request: Request) -> CoreReply
     requires { IsServable core.old request }
     ensures { IsServed core.old core.new request result }
