@@ -1,1 +1,2 @@
 pub mod Paced
+pub mod Wholes

@@ -5,18 +5,9 @@ use Rattle.std.proofs.lemmas.List.{append-nil, append_assoc, get_or-set_other, g
 use Rattle.ras_syntax.specs.declared.event.Event.{Event}
 use Rattle.spec_sessions.specs.Outcomes.{behind_next, event_of_first, events_in, next_event, paced_events}
 use Rattle.spec_sessions.specs.Walk.{Step, made, quiet}
+use Rattle.ras_server.specs.Turns.{IsEndedWith, IsIdleTurn, IsLeftBy, IsPacedBy, MayCome, event_of_step, joined, steps_at, with_step}
 
 -- ---- walks with steps behind them
-
--- walks with their last step first, and steps behind each with the first one first
-abbrev pub joined : List (List Step) → List (List Step) → List (List Step)
-joined [] mores = []
-joined (steps ∷ walks) [] = []
-joined (steps ∷ walks) (more ∷ mores) = (reverse steps ++ more) ∷ joined walks mores
-
--- a step before those of one of the lists: behind a walk whose last step comes first, or before what is to come
-abbrev pub with_step : ℕ → Step → List (List Step) → List (List Step)
-with_step place step walks = set walks place (step ∷ get_or walks place [])
 
 one-more : (step : Step) (steps more : List Step) → reverse (step ∷ steps) ++ more ≡ reverse steps ++ (step ∷ more)
 one-more step steps more = ap (λ l. l ++ more) (reverse-append (step ∷ []) steps) ∙ append_assoc (reverse steps) (step ∷ []) more
@@ -55,7 +46,7 @@ no_events (steps ∷ walks) = no_events walks
 -- ---- the next step of one of them
 
 pub next_is : (place : ℕ) (step : Step) (mores : List (List Step)) → place < length mores
-    → next_event place (with_step place step mores) ≡ event_of_first (step ∷ [])
+    → next_event place (with_step place step mores) ≡ event_of_step step
 next_is place step [] within = absurd (omega (arith, within))
 next_is zero (made event) (more ∷ mores) within = refl
 next_is zero (quiet wanting) (more ∷ mores) within = refl
@@ -83,22 +74,6 @@ behind_is_same (suc place) (more ∷ mores) none = ap (λ l. more ∷ l) (behind
 
 -- ---- while the schedule is followed
 
--- nothing more comes of those that have ended
-pub record MayCome (count : ℕ) (ended : ℕ → Truth) (mores : List (List Step)) : Type 0 where
-  pub all : length mores ≡ count
-  pub none : (place : ℕ) → ended place ≡ true → get_or mores place [] ≡ []
-
--- the turns so far give just these events, whatever comes later
-pub record IsPacedBy (turns : List ℕ) (count : ℕ) (ended : ℕ → Truth) (walks : List (List Step)) (events : List Event) : Type 0 where
-  pub all : length walks ≡ count
-  pub goes : (mores : List (List Step)) → MayCome count ended mores → (rest : List ℕ)
-      → paced_events (turns ++ rest) (joined walks mores) ≡ events ++ paced_events rest mores
-
--- one has ended, and of the others the same ones
-pub record IsEndedWith (place : ℕ) (ended later : ℕ → Truth) : Type 0 where
-  pub here : later place ≡ true
-  pub others : (other : ℕ) → other ≢ place → later other ≡ ended other
-
 module _ (turns : List ℕ) (count : ℕ) (ended later : ℕ → Truth) (walks : List (List Step)) (events : List Event) where
   -- what may come behind a step, with the step
   may_come : (place : ℕ) (step : Step) → ended place ≡ false → ((other : ℕ) → other ≢ place → later other ≡ ended other)
@@ -113,7 +88,7 @@ module _ (turns : List ℕ) (count : ℕ) (ended later : ℕ → Truth) (walks :
 
   pub paced_step : (place : ℕ) (step : Step) → place < count → ended place ≡ false → ((other : ℕ) → other ≢ place → later other ≡ ended other)
       → IsPacedBy turns count ended walks events
-      → IsPacedBy (turns ++ suc place ∷ []) count later (with_step place step walks) (events ++ event_of_first (step ∷ []))
+      → IsPacedBy (turns ++ suc place ∷ []) count later (with_step place step walks) (events ++ event_of_step step)
   paced_step place step within going others paced = record {
     all = length-set walks place (step ∷ get_or walks place []) ∙ paced.all;
     goes = λ mores may rest.
@@ -122,8 +97,8 @@ module _ (turns : List ℕ) (count : ℕ) (ended later : ℕ → Truth) (walks :
         ∙ ap (paced_events (turns ++ suc place ∷ rest)) (joined-step place step walks mores (may.all ∙ sym paced.all))
         ∙ paced.goes (with_step place step mores) (may_come place step going others mores may) (suc place ∷ rest)
         ∙ ap (λ l. events ++ (l ++ paced_events rest (behind_next place (with_step place step mores)))) (next_is place step mores here)
-        ∙ ap (λ l. events ++ (event_of_first (step ∷ []) ++ paced_events rest l)) (behind_is place step mores here)
-        ∙ sym (append_assoc events (event_of_first (step ∷ [])) (paced_events rest mores));
+        ∙ ap (λ l. events ++ (event_of_step step ++ paced_events rest l)) (behind_is place step mores here)
+        ∙ sym (append_assoc events (event_of_step step) (paced_events rest mores));
   }
 
   -- where one more has ended, less may come
@@ -138,11 +113,6 @@ module _ (turns : List ℕ) (count : ℕ) (ended later : ℕ → Truth) (walks :
 
   pub paced_ended : (place : ℕ) → IsEndedWith place ended later → IsPacedBy turns count ended walks events → IsPacedBy turns count later walks events
   paced_ended place is_ended paced = record { all = paced.all; goes = λ mores may rest. paced.goes mores (may_before place is_ended mores may) rest }
-
--- it is a turn of no session, or of one that has ended
-abbrev pub IsIdleTurn : ℕ → ℕ → (ℕ → Truth) → Type 0
-IsIdleTurn zero count ended = Unit {0}
-IsIdleTurn (suc place) count ended = (count ≤ place) ⊎ (ended place ≡ true)
 
 module _ (count : ℕ) (ended : ℕ → Truth) (walks : List (List Step)) (events : List Event) where
   idle_none : (place : ℕ) → IsIdleTurn (suc place) count ended → (mores : List (List Step)) → MayCome count ended mores → get_or mores place [] ≡ []
@@ -187,13 +157,8 @@ paced_first count ended = record {
 
 -- ---- behind the schedule, session by session
 
--- the turns so far give just these events, and then come those of the steps that are left
-pub record IsLeftBy (turns : List ℕ) (count : ℕ) (ended : ℕ → Truth) (walks : List (List Step)) (events : List Event) : Type 0 where
-  pub all : length walks ≡ count
-  pub goes : (mores : List (List Step)) → MayCome count ended mores → paced_events turns (joined walks mores) ≡ events ++ flat_map events_in mores
-
 pub events-step : (place : ℕ) (step : Step) (mores : List (List Step)) → place < length mores → ((other : ℕ) → other < place → get_or mores other [] ≡ [])
-    → flat_map events_in (with_step place step mores) ≡ event_of_first (step ∷ []) ++ flat_map events_in mores
+    → flat_map events_in (with_step place step mores) ≡ event_of_step step ++ flat_map events_in mores
 events-step place step [] within before = absurd (omega (arith, within))
 events-step zero (made event) (more ∷ mores) within before = refl
 events-step zero (quiet wanting) (more ∷ mores) within before = refl
@@ -201,7 +166,7 @@ events-step (suc place) step (more ∷ mores) within before =
     let none : events_in more ≡ [] = ap events_in (before zero (omega arith)) in
     ap (λ l. l ++ flat_map events_in (with_step place step mores)) none
     ∙ events-step place step mores (omega (arith, within)) (λ other less. before (suc other) (omega (arith, less)))
-    ∙ ap (λ l. event_of_first (step ∷ []) ++ (l ++ flat_map events_in mores)) (sym none)
+    ∙ ap (λ l. event_of_step step ++ (l ++ flat_map events_in mores)) (sym none)
 
 module _ (turns : List ℕ) (count : ℕ) (ended : ℕ → Truth) (walks : List (List Step)) (events : List Event) where
   pub left_from : IsPacedBy turns count ended walks events → IsLeftBy turns count ended walks events
@@ -222,7 +187,7 @@ module _ (turns : List ℕ) (count : ℕ) (ended : ℕ → Truth) (walks : List 
 
   pub left_step : (later : ℕ → Truth) (place : ℕ) (step : Step) → place < count → ended place ≡ false
       → ((other : ℕ) → other < place → ended other ≡ true) → ((other : ℕ) → other ≢ place → later other ≡ ended other)
-      → IsLeftBy turns count ended walks events → IsLeftBy turns count later (with_step place step walks) (events ++ event_of_first (step ∷ []))
+      → IsLeftBy turns count ended walks events → IsLeftBy turns count later (with_step place step walks) (events ++ event_of_step step)
   left_step later place step within going before others left = record {
     all = length-set walks place (step ∷ get_or walks place []) ∙ left.all;
     goes = λ mores may.
@@ -230,6 +195,6 @@ module _ (turns : List ℕ) (count : ℕ) (ended : ℕ → Truth) (walks : List 
         ap (paced_events turns) (joined-step place step walks mores (may.all ∙ sym left.all))
         ∙ left.goes (with_step place step mores) (may_come turns count ended later walks events place step going others mores may)
         ∙ ap (λ l. events ++ l) (events-step place step mores here (λ other less.
-            let apart : other ≢ place = omega (arith, less) in may.none other (others other apart ∙ before other less)))
-        ∙ sym (append_assoc events (event_of_first (step ∷ [])) (flat_map events_in mores));
+        let apart : other ≢ place = omega (arith, less) in may.none other (others other apart ∙ before other less)))
+        ∙ sym (append_assoc events (event_of_step step) (flat_map events_in mores));
   }
