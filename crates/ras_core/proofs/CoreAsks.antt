@@ -6,7 +6,8 @@ use Rattle.ras_domain.specs.declared.lock.LockName.{LockName}
 use Rattle.ras_domain.specs.declared.lock.Mode.{Mode}
 use Rattle.ras_syntax.specs.declared.event.Event.{Event}
 use Rattle.ras_syntax.specs.declared.event.Event.TheVariants.{Granted, Refused}
-use Rattle.ras_store.specs.Piece.{piece_kept}
+use Rattle.ras_store.specs.Kept.{Kept}
+use Rattle.ras_store.specs.Piece.{piece_kept, piece_over}
 use Rattle.ras_store.specs.Store.{store_kept}
 use Rattle.ras_store.specs.declared.piece.Piece.{Piece}
 use Rattle.ras_store.specs.declared.store.Store.{Store}
@@ -47,7 +48,7 @@ module _ (workload : Workload) (store : Store) (table : HeldLocks) (journal : Jo
         core-granted workload store table journal begun committed is state same t k p list alive due ready table' journal' reserved free made holding added-list
 
     pub asked-grant : (piece : Piece) → ((name : LockName) → Names list name → piece_kept piece name ≡ store_kept store name)
-        → ((name : LockName) → ¬ Names list name → piece_kept piece name ≡ None)
+        → ((name : LockName) (before : Option Kept) → ¬ Names list name → piece_over piece name before ≡ before)
         → IsGrantOf t k p list state (state_over workload store journal') piece
     asked-grant piece held others = record {
       state = ap (state_over workload store) added-list

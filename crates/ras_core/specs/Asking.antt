@@ -1,9 +1,10 @@
 -- What comes of asking for the locks of a list.
-use Rattle.std.specs.Prelude.{◌≡◌, ℕ, List, None, Contains}
+use Rattle.std.specs.Prelude.{◌≡◌, ℕ, List, Option, Contains}
 use Rattle.ras_domain.specs.declared.lock.LockName.{LockName}
 use Rattle.ras_domain.specs.declared.lock.Mode.{Mode}
 use Rattle.ras_syntax.specs.declared.event.Event.TheVariants.{Granted, Refused}
-use Rattle.ras_store.specs.Piece.{piece_kept}
+use Rattle.ras_store.specs.Kept.{Kept}
+use Rattle.ras_store.specs.Piece.{piece_kept, piece_over}
 use Rattle.ras_store.specs.Store.{store_kept}
 use Rattle.ras_store.specs.declared.piece.Piece.{Piece}
 use Rattle.ras_store.specs.declared.store.Store.{Store}
@@ -14,10 +15,10 @@ use Rattle.ras_core.specs.States.{CoreState, with_closing, with_event}
 use Rattle.ras_core.specs.declared.asked.Asked.{Asked}
 use Rattle.ras_core.specs.declared.asked.Asked.TheVariants as asked
 
--- the piece has what the store keeps under the names of a list, and nothing else
+-- the piece has what the store keeps under the names of a list, and puts nothing over other names
 pub record IsPieceUnder (store : Store) (list : List Lock) (piece : Piece) : Type 0 where
   pub held : (name : LockName) → Names list name → piece_kept piece name ≡ store_kept store name
-  pub others : (name : LockName) → ¬ Names list name → piece_kept piece name ≡ None
+  pub others : (name : LockName) (before : Option Kept) → ¬ Names list name → piece_over piece name before ≡ before
 
 -- every lock of the list is free, and is held from now on
 pub record IsGrantOf (t k p : ℕ) (list : List Lock) (old new : CoreState) (piece : Piece) : Type 0 where

@@ -1,5 +1,5 @@
 //! The list of events, with room for those that must not fail.
-ghost use Rattle.std.specs.Prelude.{◌≡◌, ◌+◌, ◌≤◌, [], ◌∷◌, ◌++◌, IsTrue, OnErr, OnOk, length, vec_capacity};
+ghost use Rattle.std.specs.Prelude.{◌≡◌, ◌+◌, ◌≤◌, [], ◌∷◌, ◌++◌, IsTrue, OnErr, OnOk, false, length, vec_capacity};
 ghost use Rattle.ras_core.specs.Journal.{is_listed_live, is_reserved, live_without, reserved_with, reserved_without, reserved_without_all_of};
 
 use ras_syntax::Event;
@@ -102,6 +102,7 @@ impl Journal {
     ) -> Result<(), AllocError>
         ensures ok { OnOk result (self.new ≡ record self.old { reserved = reserved_with t statement self.old.reserved }) }
         ensures err { OnErr result (self.new ≡ self.old) }
+        ensures anew { OnErr result (is_reserved t statement self.old.reserved ≡ false) }
     {
         if self.is_reserved(t, statement) {
             return Ok(());

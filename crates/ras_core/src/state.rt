@@ -11,6 +11,7 @@ ghost use Rattle.spec_histories.specs.Legal.{IsDueList, IsFree, MayFollow, is_be
 ghost use Rattle.spec_views.specs.Sessions.{IsIdle};
 ghost use Rattle.spec_views.specs.Work.{RewritesTo};
 ghost use Rattle.ras_core.specs.Asking.{ComesOfAsking, IsGrantOf};
+ghost use Rattle.ras_core.specs.Journal.{is_reserved};
 ghost use Rattle.ras_core.specs.States.{AreProgramsOf, IsCommitted, IsPlaceIn, IsReservedIn, IsLegalState, IsUnchanged, LeavesOthers, with_closing, with_end, with_event, with_reserved};
 
 use crate::asked::Asked;
@@ -119,6 +120,7 @@ impl Core {
         requires { IsTrue (is_live t self.old.history) }
         ensures ok { OnOk result (self.new ≡ with_reserved t statement self.old) }
         ensures err { OnErr result (self.new ≡ self.old) }
+        ensures anew { OnErr result (is_reserved t statement self.old.reserved ≡ false) }
     {
         self.journal.reserve(alloc, t, statement)
     }

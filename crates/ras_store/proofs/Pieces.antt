@@ -29,7 +29,7 @@ use Rattle.ras_store.specs.declared.change.Change.TheVariants.{Domain as DomainC
 use Rattle.ras_store.specs.declared.collection.CollectionInfo.{CollectionInfo}
 use Rattle.ras_store.specs.declared.piece.Piece.{Piece}
 use Rattle.ras_store.specs.Kept.{Kept, changed_by, changed_by_all, collection_kept, domain_kept, kept_tile, name_changed}
-use Rattle.ras_store.specs.Piece.{IsTakenWhere, collection_entry, domain_entry, is_same_lock_name, kept_by, piece_kept, piece_over, placed_by, placed_by_all, tile_entry}
+use Rattle.ras_store.specs.Piece.{IsTakenWhere, collection_entry, domain_entry, is_same_lock_name, kept_by, piece_over, placed_by, placed_by_all, tile_entry}
 use Rattle.ras_store.proofs.Listed.{by_name_total, changed_by_all-push}
 use Rattle.spec_statements.specs.Locks.{Lock}
 use Rattle.spec_statements.specs.ReachLaw.{Names}
@@ -110,41 +110,41 @@ taken-nothing kept same old none = inr (none, refl)
 module _ (old new : Piece) where
   pub taken-collection : (n : List ℕ) (info : Option CollectionInfo) (kept : Option Kept)
       → new.collections ≡ old.collections ++ (n, info) ∷ [] → new.domains ≡ old.domains → new.tiles ≡ old.tiles
-      → option_map collection_kept info ≡ kept → (other : LockName)
-      → IsTakenWhere kept (is_same_lock_name (Collection n) other) (piece_kept old other) (piece_kept new other)
-  taken-collection n info kept more domains tiles is (Collection m) =
+      → option_map collection_kept info ≡ kept → (other : LockName) (before : Option Kept)
+      → IsTakenWhere kept (is_same_lock_name (Collection n) other) (piece_over old other before) (piece_over new other before)
+  taken-collection n info kept more domains tiles is (Collection m) before =
       inl
-      (ap (λ es. changed_by_all (map collection_entry es) (Collection m) None) more
-      ∙ entries-push collection_entry old.collections (n, info) (Collection m) None
-      ∙ ap (λ k. cond (is_at (slice_cmp nat_cmp n) m) k (piece_kept old (Collection m))) is)
-  taken-collection n info kept more domains tiles is (Domain m oid) = inl (ap (λ es. changed_by_all (map domain_entry es) (Domain m oid) None) domains)
-  taken-collection n info kept more domains tiles is (Tile m oid place) = inl (ap (λ es. changed_by_all (map tile_entry es) (Tile m oid place) None) tiles)
+      (ap (λ es. changed_by_all (map collection_entry es) (Collection m) before) more
+      ∙ entries-push collection_entry old.collections (n, info) (Collection m) before
+      ∙ ap (λ k. cond (is_at (slice_cmp nat_cmp n) m) k (piece_over old (Collection m) before)) is)
+  taken-collection n info kept more domains tiles is (Domain m oid) before = inl (ap (λ es. changed_by_all (map domain_entry es) (Domain m oid) before) domains)
+  taken-collection n info kept more domains tiles is (Tile m oid place) before = inl (ap (λ es. changed_by_all (map tile_entry es) (Tile m oid place) before) tiles)
 
   pub taken-domain : (n : List ℕ) (id : ℕ) (domain : List Interval) (kept : Option Kept)
       → new.domains ≡ old.domains ++ (n, id, domain) ∷ [] → new.collections ≡ old.collections → new.tiles ≡ old.tiles
-      → Some (domain_kept domain) ≡ kept → (other : LockName)
-      → IsTakenWhere kept (is_same_lock_name (Domain n id) other) (piece_kept old other) (piece_kept new other)
-  taken-domain n id domain kept more collections tiles is (Domain m oid) =
+      → Some (domain_kept domain) ≡ kept → (other : LockName) (before : Option Kept)
+      → IsTakenWhere kept (is_same_lock_name (Domain n id) other) (piece_over old other before) (piece_over new other before)
+  taken-domain n id domain kept more collections tiles is (Domain m oid) before =
       inl
-      (ap (λ es. changed_by_all (map domain_entry es) (Domain m oid) None) more
-      ∙ entries-push domain_entry old.domains (n, id, domain) (Domain m oid) None
-      ∙ joined (is_at (slice_cmp nat_cmp n) m) (is_at (nat_cmp id) oid) (Some (domain_kept domain)) (piece_kept old (Domain m oid))
-      ∙ ap (λ k. cond (is_at (slice_cmp nat_cmp n) m && is_at (nat_cmp id) oid) k (piece_kept old (Domain m oid))) is)
-  taken-domain n id domain kept more collections tiles is (Collection m) = inl (ap (λ es. changed_by_all (map collection_entry es) (Collection m) None) collections)
-  taken-domain n id domain kept more collections tiles is (Tile m oid place) = inl (ap (λ es. changed_by_all (map tile_entry es) (Tile m oid place) None) tiles)
+      (ap (λ es. changed_by_all (map domain_entry es) (Domain m oid) before) more
+      ∙ entries-push domain_entry old.domains (n, id, domain) (Domain m oid) before
+      ∙ joined (is_at (slice_cmp nat_cmp n) m) (is_at (nat_cmp id) oid) (Some (domain_kept domain)) (piece_over old (Domain m oid) before)
+      ∙ ap (λ k. cond (is_at (slice_cmp nat_cmp n) m && is_at (nat_cmp id) oid) k (piece_over old (Domain m oid) before)) is)
+  taken-domain n id domain kept more collections tiles is (Collection m) before = inl (ap (λ es. changed_by_all (map collection_entry es) (Collection m) before) collections)
+  taken-domain n id domain kept more collections tiles is (Tile m oid place) before = inl (ap (λ es. changed_by_all (map tile_entry es) (Tile m oid place) before) tiles)
 
   pub taken-tile : (n : List ℕ) (id : ℕ) (at : ArrayVec ℤ) (tile : Arc TileValue Global) (kept : Option Kept)
       → new.tiles ≡ old.tiles ++ (n, id, at, tile) ∷ [] → new.collections ≡ old.collections → new.domains ≡ old.domains
-      → kept_tile (Some tile) ≡ kept → (other : LockName)
-      → IsTakenWhere kept (is_same_lock_name (Tile n id at) other) (piece_kept old other) (piece_kept new other)
-  taken-tile n id at tile kept more collections domains is (Tile m oid place) =
+      → kept_tile (Some tile) ≡ kept → (other : LockName) (before : Option Kept)
+      → IsTakenWhere kept (is_same_lock_name (Tile n id at) other) (piece_over old other before) (piece_over new other before)
+  taken-tile n id at tile kept more collections domains is (Tile m oid place) before =
       inl
-      (ap (λ es. changed_by_all (map tile_entry es) (Tile m oid place) None) more
-      ∙ entries-push tile_entry old.tiles (n, id, at, tile) (Tile m oid place) None
-      ∙ joined (is_at (slice_cmp nat_cmp n) m) (is_at (nat_cmp id) oid && is_at (row_major at.items) place.items) (kept_tile (Some tile)) (piece_kept old (Tile m oid place))
-      ∙ ap (λ k. cond (is_same_lock_name (Tile n id at) (Tile m oid place)) k (piece_kept old (Tile m oid place))) is)
-  taken-tile n id at tile kept more collections domains is (Collection m) = inl (ap (λ es. changed_by_all (map collection_entry es) (Collection m) None) collections)
-  taken-tile n id at tile kept more collections domains is (Domain m oid) = inl (ap (λ es. changed_by_all (map domain_entry es) (Domain m oid) None) domains)
+      (ap (λ es. changed_by_all (map tile_entry es) (Tile m oid place) before) more
+      ∙ entries-push tile_entry old.tiles (n, id, at, tile) (Tile m oid place) before
+      ∙ joined (is_at (slice_cmp nat_cmp n) m) (is_at (nat_cmp id) oid && is_at (row_major at.items) place.items) (kept_tile (Some tile)) (piece_over old (Tile m oid place) before)
+      ∙ ap (λ k. cond (is_same_lock_name (Tile n id at) (Tile m oid place)) k (piece_over old (Tile m oid place) before)) is)
+  taken-tile n id at tile kept more collections domains is (Collection m) before = inl (ap (λ es. changed_by_all (map collection_entry es) (Collection m) before) collections)
+  taken-tile n id at tile kept more collections domains is (Domain m oid) before = inl (ap (λ es. changed_by_all (map domain_entry es) (Domain m oid) before) domains)
 
 -- ---- the names of a list one after another
 
@@ -169,6 +169,28 @@ one-more-taken list i lock mode kept old new within at was taken name =
     ∙ ap (λ b. cond (is_named (take i list) name || b) (kept name) None)
     (ap (λ (l : Lock). is_same_lock_name l.0 name) (sym (get_or_from_slice_get list i (lock, mode) (lock, mode) at)))
     ∙ ap (λ b. cond b (kept name) None) (sym (list_any_more (λ (l : Lock). is_same_lock_name l.0 name) list i (lock, mode) within))
+
+neither : (a b : Bool) → (a || b) ≡ false → (a ≡ false) × (b ≡ false)
+neither false b is = (refl, is)
+neither true b is = absurd (cc)
+
+still_over : (b : Bool) (kept old new before : Option Kept) → b ≡ false → old ≡ before → IsTakenWhere kept b old new → new ≡ before
+still_over false kept old new before apart was (inl is) = is ∙ was
+still_over false kept old new before apart was (inr both) = both.1 ∙ was
+still_over true kept old new before apart was taken = absurd (cc)
+
+-- over a name that isn't among them nothing is put
+pub one-more-apart : (list : List Lock) (i : ℕ) (lock : LockName) (mode : Mode) (kept : Option Kept) (old new : LockName → Option Kept → Option Kept)
+    → i < length list → slice_get list i ≡ Some (lock, mode)
+    → ((name : LockName) (before : Option Kept) → is_named (take i list) name ≡ false → old name before ≡ before)
+    → ((name : LockName) (before : Option Kept) → IsTakenWhere kept (is_same_lock_name lock name) (old name before) (new name before))
+    → (name : LockName) (before : Option Kept) → is_named (take (i + 1) list) name ≡ false → new name before ≡ before
+one-more-apart list i lock mode kept old new within at was taken name before apart =
+    let both = neither (is_named (take i list) name) (is_same_lock_name lock name)
+    (ap (λ b. is_named (take i list) name || b)
+    (ap (λ (l : Lock). is_same_lock_name l.0 name) (sym (get_or_from_slice_get list i (lock, mode) (lock, mode) at)))
+    ∙ sym (list_any_more (λ (l : Lock). is_same_lock_name l.0 name) list i (lock, mode) within) ∙ apart) in
+    still_over (is_same_lock_name lock name) kept (old name before) (new name before) before both.1 (was name before both.0) (taken name before)
 
 -- ---- entries put one after another, except under names that were written
 

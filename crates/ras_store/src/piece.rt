@@ -1,7 +1,7 @@
 //! What is taken of a store under a list of locks, and put into a view.
-ghost use Rattle.std.specs.Prelude.{◌≡◌, [], ◌∷◌, ◌++◌, None, All, map, IfOk, OnOk, if◌then◌else◌};
+ghost use Rattle.std.specs.Prelude.{◌≡◌, [], ◌∷◌, ◌++◌, Option, All, map, IfOk, OnOk, if◌then◌else◌};
 ghost use Rattle.ras_domain.specs.declared.lock.LockName.{LockName};
-ghost use Rattle.ras_store.specs.Kept.{HasRoomAt, HasRoomFor, kept_in, name_changed};
+ghost use Rattle.ras_store.specs.Kept.{Kept, HasRoomAt, HasRoomFor, kept_in, name_changed};
 ghost use Rattle.ras_store.specs.Piece.{IsTakenWhere, collection_entry, domain_entry, is_same_lock_name, piece_kept, piece_over, placed_by, placed_by_all, tile_entry};
 ghost use Rattle.spec_statements.specs.ReachLaw.{Names};
 
@@ -27,7 +27,7 @@ pub struct Piece {
 impl Piece {
     /// The piece of no names. It allocates nothing.
     pub fn new(alloc: Global) -> Piece
-        ensures { (name : LockName) → piece_kept result name ≡ None }
+        ensures { (name : LockName) (before : Option Kept) → piece_over result name before ≡ before }
     {
         Piece {
             collections: List::new(alloc),
@@ -44,7 +44,8 @@ pub(crate) fn piece_of(
     list: &LockList,
 ) -> Result<Piece, AllocError>
     ensures held { IfOk result (λ piece. (name : LockName) → Names list.now name → piece_kept piece name ≡ kept_in contents.now name) }
-    ensures others { IfOk result (λ piece. (name : LockName) → ¬ Names list.now name → piece_kept piece name ≡ None) }
+    ensures others { IfOk result (λ piece. (name : LockName) (before : Option Kept)
+        → ¬ Names list.now name → piece_over piece name before ≡ before) }
 {
     let mut piece = Piece::new(alloc);
     for place in 0..list.len() {
@@ -61,8 +62,8 @@ fn take(
     lock: &LockName,
     piece: &mut Piece,
 ) -> Result<(), AllocError>
-    ensures { OnOk result ((other : LockName) → IsTakenWhere (kept_in contents.now lock.now) (is_same_lock_name lock.now other)
-        (piece_kept piece.old other) (piece_kept piece.new other)) }
+    ensures { OnOk result ((other : LockName) (before : Option Kept) → IsTakenWhere (kept_in contents.now lock.now) (is_same_lock_name lock.now other)
+        (piece_over piece.old other before) (piece_over piece.new other before)) }
 {
     match lock {
         LockName::Collection(name) => take_collection(alloc, contents, name, piece),
@@ -78,8 +79,8 @@ fn take_collection(
     name: &Name,
     piece: &mut Piece,
 ) -> Result<(), AllocError>
-    ensures { OnOk result ((other : LockName) → IsTakenWhere (kept_in contents.now (LockName.Collection name.now))
-        (is_same_lock_name (LockName.Collection name.now) other) (piece_kept piece.old other) (piece_kept piece.new other)) }
+    ensures { OnOk result ((other : LockName) (before : Option Kept) → IsTakenWhere (kept_in contents.now (LockName.Collection name.now))
+        (is_same_lock_name (LockName.Collection name.now) other) (piece_over piece.old other before) (piece_over piece.new other before)) }
 {
     let info = match contents.info(name) {
         Some(info) => Some(info.try_clone(alloc)?),
@@ -98,8 +99,8 @@ fn take_domain(
     oid: u64,
     piece: &mut Piece,
 ) -> Result<(), AllocError>
-    ensures { OnOk result ((other : LockName) → IsTakenWhere (kept_in contents.now (LockName.Domain name.now oid))
-        (is_same_lock_name (LockName.Domain name.now oid) other) (piece_kept piece.old other) (piece_kept piece.new other)) }
+    ensures { OnOk result ((other : LockName) (before : Option Kept) → IsTakenWhere (kept_in contents.now (LockName.Domain name.now oid))
+        (is_same_lock_name (LockName.Domain name.now oid) other) (piece_over piece.old other before) (piece_over piece.new other before)) }
 {
     match contents.domain(name, oid) {
         Some(domain) => {
@@ -121,8 +122,8 @@ fn take_tile(
     place: &Point,
     piece: &mut Piece,
 ) -> Result<(), AllocError>
-    ensures { OnOk result ((other : LockName) → IsTakenWhere (kept_in contents.now (LockName.Tile name.now oid place.now))
-        (is_same_lock_name (LockName.Tile name.now oid place.now) other) (piece_kept piece.old other) (piece_kept piece.new other)) }
+    ensures { OnOk result ((other : LockName) (before : Option Kept) → IsTakenWhere (kept_in contents.now (LockName.Tile name.now oid place.now))
+        (is_same_lock_name (LockName.Tile name.now oid place.now) other) (piece_over piece.old other before) (piece_over piece.new other before)) }
 {
     match contents.tile(name, oid, place) {
         Some(tile) => {

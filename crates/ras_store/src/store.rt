@@ -1,4 +1,4 @@
-ghost use Rattle.std.specs.Prelude.{◌≡◌, None, IsSome, List, ℕ, ◌↔◌, All, Contains, IfOk, OnOk, map, option_map};
+ghost use Rattle.std.specs.Prelude.{◌≡◌, None, IsSome, List, Option, ℕ, ◌↔◌, All, Contains, IfOk, OnOk, map, option_map};
 ghost use Rattle.std.specs.Option.{option_copied};
 ghost use Rattle.std.specs.List.Sorted.{IsStrictlySortedBy};
 ghost use Rattle.std.specs.Ordering.{nat_cmp};
@@ -6,8 +6,8 @@ ghost use Rattle.std.specs.Cmp.Lexicographic.{slice_cmp};
 ghost use Rattle.ras_domain.specs.declared.lock.LockName.{LockName};
 ghost use Rattle.ras_store.specs.declared.change.Change.{Change};
 ghost use Rattle.spec_statements.specs.ReachLaw.{Names};
-ghost use Rattle.ras_store.specs.Kept.{changed_by_all, collection_kept, domain_kept, kept_tile};
-ghost use Rattle.ras_store.specs.Piece.{piece_kept};
+ghost use Rattle.ras_store.specs.Kept.{Kept, changed_by_all, collection_kept, domain_kept, kept_tile};
+ghost use Rattle.ras_store.specs.Piece.{piece_kept, piece_over};
 ghost use Rattle.ras_store.specs.Store.{HasRoomForAll, store_kept};
 
 use crate::array::copy_of;
@@ -79,10 +79,11 @@ impl Store {
     }
 
     /// What the names of a list show: an entry for each collection that is named, and for each domain and
-    /// tile that is named and there. Tiles are shared. The error is want of memory.
+    /// tile that is named and there, and no others. Tiles are shared. The error is want of memory.
     pub fn piece(&self, alloc: Global, list: &LockList) -> Result<Piece, AllocError>
         ensures held { IfOk result (λ piece. (name : LockName) → Names list.now name → piece_kept piece name ≡ store_kept self.now name) }
-        ensures others { IfOk result (λ piece. (name : LockName) → ¬ Names list.now name → piece_kept piece name ≡ None) }
+        ensures others { IfOk result (λ piece. (name : LockName) (before : Option Kept)
+            → ¬ Names list.now name → piece_over piece name before ≡ before) }
     {
         piece_of(alloc, &self.contents, list)
     }
