@@ -1,8 +1,8 @@
 -- How a run goes on, turn by turn, and what it gives at its end.
 use Rattle.std.proofs.Common.{◌≡◌, ◌≢◌, ℕ, zero, suc, ◌+◌, ◌-◌, ◌<◌, ◌≤◌, Bool as Truth, true, false, inl, inr, List, [], ◌∷◌, ◌++◌, flat_map, length, map, get_or, replicate, reverse, take, Option, Some, None, refl, sym, ap, ◌∙◌, subst, arith, add-zero, zero-add, add-one}
-use Rattle.std.specs.Prelude.{IsTrue, slice_get}
+use Rattle.std.specs.Prelude.{IsTrue, nat_le, slice_get}
 use Rattle.std.specs.List.{AllByRecursion}
-use Rattle.std.proofs.lemmas.Bool.{cases_eq}
+use Rattle.std.proofs.lemmas.Bool.{cases_eq, cond-true, le-leb}
 use Rattle.std.proofs.lemmas.Grind.{flat_map-append}
 use Rattle.std.proofs.lemmas.List.{append-nil, append_assoc, length-map, replicate-append-replicate, reverse-append, reverse-reverse}
 use Rattle.std.proofs.lemmas.Option.{slice_get_cases, slice_get_within}
@@ -33,7 +33,10 @@ use Rattle.ras_server.proofs.Wholes.{AreWhole, IsToldLine, good_outcome, made_fr
 -- ---- places of lists
 
 pub nth_suc : {X : Type 0} (place : ℕ) (xs : List X) → nth (suc place) xs ≡ slice_get xs place
-nth_suc place xs = let e : suc place - 1 ≡ place = omega arith in ap (slice_get xs) e
+nth_suc place xs =
+    let some : 1 ≤ suc place = omega arith in
+    let e : suc place - 1 ≡ place = omega arith in
+    cond-true (nat_le 1 (suc place)) (slice_get xs (suc place - 1)) None (le-leb 1 (suc place) some) ∙ ap (slice_get xs) e
 
 no-steps : (count place : ℕ) → steps_at place (replicate count []) ≡ []
 no-steps zero place = refl
