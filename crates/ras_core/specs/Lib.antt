@@ -1,5 +1,4 @@
 pub mod Asking
 pub mod Counts
-pub mod First
 pub mod Journal
 pub mod States

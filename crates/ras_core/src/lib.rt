@@ -2,10 +2,8 @@
 #![tactic(auto)]
 
 mod asked;
-mod first;
 mod journal;
 mod state;
 
 pub use asked::Asked;
-pub use first::{FirstCore, FirstEvent};
 pub use state::Core;
