@@ -1,5 +1,5 @@
 -- How a run goes on, turn by turn, and what it gives at its end.
-use Rattle.std.proofs.Common.{◌≡◌, ◌≢◌, ℕ, zero, suc, ◌+◌, ◌-◌, ◌<◌, ◌≤◌, Bool as Truth, true, false, inl, inr, List, [], ◌∷◌, ◌++◌, flat_map, length, map, get_or, replicate, reverse, take, Option, Some, None, refl, sym, ap, ◌∙◌, subst, arith, add-zero, zero-add, add-one}
+use Rattle.std.proofs.Common.{◌≡◌, ◌≢◌, ℕ, zero, suc, ◌+◌, ◌-◌, ◌<◌, ◌≤◌, Bool as Truth, true, false, inl, inr, ◌⊎◌, List, [], ◌∷◌, ◌++◌, flat_map, length, map, get_or, replicate, reverse, take, Option, Some, None, refl, sym, ap, ◌∙◌, subst, arith, add-zero, zero-add, add-one}
 use Rattle.std.specs.Prelude.{IsTrue, nat_le, slice_get}
 use Rattle.std.specs.List.{AllByRecursion}
 use Rattle.std.proofs.lemmas.Bool.{cases_eq, cond-true, le-leb}
@@ -24,7 +24,7 @@ use Rattle.ras_store.specs.declared.workload.Workload.{Workload}
 use Rattle.ras_session.specs.declared.session.Session.{Session}
 use Rattle.ras_session.specs.Tied.{IsTied, TellNoWant, script_in, script_read, walked_by}
 use Rattle.ras_server.specs.Running.{AreNew, ComesOfTurn, DrainsTo, FollowsBy, HasRested, HasTurned, IsDraining, IsFollowing, IsRunning, IsSameRun, is_session_through, is_through, lines_in}
-use Rattle.ras_server.specs.Runs.{IsRunOf, IsRunTo, scripts_of}
+use Rattle.ras_server.specs.Runs.{HasPrograms, IsRunOf, IsRunTo, scripts_of}
 use Rattle.ras_server.specs.Turns.{IsIdleTurn, IsKeptEvent, IsLeftBy, IsPacedBy, event_of_step, steps_at, with_step}
 use Rattle.ras_server.specs.declared.running.Running.{Running}
 use Rattle.ras_server.proofs.Paced.{idle_turns, left_end, left_ended, left_from, left_step, paced_ended, paced_first, paced_step}
@@ -44,6 +44,41 @@ no-steps (suc count) zero = refl
 no-steps (suc count) (suc place) = no-steps count place
 
 -- ---- before the first turn
+
+more-at : {X : Type 0} (xs : List X) (one : X) (place : ℕ) (x : X) → slice_get (xs ++ one ∷ []) place ≡ Some x
+    → (slice_get xs place ≡ Some x) ⊎ ((place ≡ length xs) × (x ≡ one))
+more-at [] one zero x there = let e : x ≡ one = cc in inr (refl, e)
+more-at [] one (suc place) x there = absurd (let e = there in cc)
+more-at (y ∷ xs) one zero x there = inl there
+more-at (y ∷ xs) one (suc place) x there = elim (more-at xs one place x there) [
+  | inl is ↦ inl is
+  | inr is ↦ inr (ap suc is.0, is.1)
+]
+
+-- one session more
+pub new_more : (sessions : List Session) (one : Session) → AreNew sessions → one.number ≡ suc (length sessions)
+    → ((programs : Programs) (workload : Workload) (script : Script) → AreProgramsOf workload programs → nth (suc (length sessions)) workload.scripts ≡ Some script
+    → IsTied programs (script_in workload (suc (length sessions))) [] [] one)
+    → AreNew (sessions ++ one ∷ [])
+new_more sessions one are_new number tied = record {
+  numbers = λ place session there. elim (more-at sessions one place session there) [
+    | inl is ↦ are_new.numbers place session is
+    | inr is ↦ ap (λ (s : Session). s.number) is.1 ∙ number ∙ ap suc (sym is.0)
+  ];
+  tied = λ place session there programs workload script are at. elim (more-at sessions one place session there) [
+    | inl is ↦ are_new.tied place session is programs workload script are at
+    | inr is ↦
+        subst (λ s. IsTied programs (script_in workload (suc place)) [] [] s) (sym is.1)
+        (subst (λ p. IsTied programs (script_in workload (suc p)) [] [] one) (sym is.0)
+        (tied programs workload script are (ap (λ p. nth (suc p) workload.scripts) (sym is.0) ∙ at)))
+  ];
+}
+
+pub new_none : AreNew []
+new_none = record {
+  numbers = λ place session there. absurd (let e = there in cc);
+  tied = λ place session there programs workload script are at. absurd (let e = there in cc);
+}
 
 pub follows_first : (run : Running) → run.core.history ≡ [] → ((programs : Programs) → AreProgramsOf run.core.workload programs → IsLegalState programs run.core)
     → length run.sessions.items ≡ length run.core.workload.scripts → AreNew run.sessions.items → IsFollowing [] run
@@ -70,6 +105,21 @@ follows_first run none legal all are_new = record {
           (are_new.tied place session there programs run.core.workload found.0 are (nth_suc place run.core.workload.scripts ∙ found.2)))
       | inr past ↦ absurd (omega (arith, slice_get_within run.sessions.items place session there, all, past.0))
     ]
+
+-- ---- the same run
+
+pub same_start : (run : Running) → IsSameRun run run
+same_start run = record { workload = refl; count = refl }
+
+pub same_then : (first old new : Running) → IsSameRun first old → IsSameRun old new → IsSameRun first new
+same_then first old new one other = record { workload = other.workload ∙ one.workload; count = other.count ∙ one.count }
+
+pub has_still : (old new : Running) → IsSameRun old new → HasPrograms old.core.workload → HasPrograms new.core.workload
+has_still old new same has = subst HasPrograms (sym same.workload) has
+
+pub turn_same : (place : ℕ) (walks : List (List Step)) (old new : Running) (goes_on : Truth) → ComesOfTurn place walks old new goes_on → IsSameRun old new
+turn_same place walks old new true comes = comes.same
+turn_same place walks old new false comes = comes.same
 
 -- ---- along the schedule
 

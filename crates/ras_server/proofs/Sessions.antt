@@ -1,6 +1,6 @@
 -- What comes of a session's turn for it and for the other sessions.
-use Rattle.std.proofs.Common.{◌≡◌, ◌≢◌, ℕ, zero, suc, ◌<◌, Bool as Truth, true, false, ◌==◌, inl, inr, List, [], ◌∷◌, ◌++◌, length, set, get_or, Option, Some, None, refl, sym, ap, ◌∙◌, subst, arith}
-use Rattle.std.specs.Prelude.{IsTrue, slice_get}
+use Rattle.std.proofs.Common.{◌≡◌, ◌≢◌, ℕ, zero, suc, ◌<◌, Bool as Truth, true, false, ◌==◌, inl, inr, List, [], ◌∷◌, ◌++◌, length, set, get_or, Option, Some, None, Result, Ok, Err, refl, sym, ap, ◌∙◌, subst, arith}
+use Rattle.std.specs.Prelude.{IfOk, IsTrue, slice_get}
 use Rattle.std.specs.List.{AllByRecursion}
 use Rattle.std.proofs.lemmas.Bool.{cases_eq, eqb-true, eq-eqb}
 use Rattle.std.proofs.lemmas.List.{get_or-set_other, get_or-set_same, length-set}
@@ -70,6 +70,16 @@ LeavesOthersTied = (programs : Programs) (script : ReadScript) (more past : Hist
 
 -- ---- a turn
 
+-- a session of a run may step
+pub ready_at : (place : ℕ) (walks : List (List Step)) (run : Running) (session : Session) → IsRunning walks run → slice_get run.sessions.items place ≡ Some session
+    → IsReady run.core (steps_at place walks) session
+ready_at place walks run session running there = record {
+  legal = running.legal;
+  tied = λ programs are.
+      subst (λ n. IsTied programs (script_in run.core.workload n) run.core.history (steps_at place walks) session)
+      (sym (running.numbers place session there)) (running.tied place session there programs are);
+}
+
 -- a session of a run steps, and is put back in its place
 pub record IsTurnOf (place : ℕ) (walks : List (List Step)) (old new : Running) (goes_on : Truth) : Type 0 where
   pub has : HasPrograms old.core.workload
@@ -87,14 +97,6 @@ module _ (place : ℕ) (walks : List (List Step)) (old new : Running) (goes_on :
 
   number : is.before.number ≡ suc place
   number = is.running.numbers place is.before is.there
-
-  ready : IsReady old.core (steps_at place walks) is.before
-  ready = record {
-    legal = is.running.legal;
-    tied = λ programs are.
-        subst (λ n. IsTied programs (script_in old.core.workload n) old.core.history (steps_at place walks) is.before) (sym number)
-        (is.running.tied place is.before is.there programs are);
-  }
 
   at_place : slice_get new.sessions.items place ≡ Some is.after
   at_place = ap (λ l. slice_get l place) is.put ∙ slice_get-set_same old.sessions.items place is.after within
@@ -283,5 +285,22 @@ module _ (place : ℕ) (walks : List (List Step)) (old new : Running) (goes_on :
 
 pub comes_of_turn : (place : ℕ) (walks : List (List Step)) (old new : Running) (goes_on : Truth) → IsTurnOf place walks old new goes_on
     → ComesOfTurn place walks old new goes_on
-comes_of_turn place walks old new true is = has_turned place walks old new true is (is.comes (steps_at place walks) (ready place walks old new true is))
-comes_of_turn place walks old new false is = has_rested place walks old new false is (is.comes (steps_at place walks) (ready place walks old new false is))
+comes_of_turn place walks old new true is = has_turned place walks old new true is (is.comes (steps_at place walks) (ready_at place walks old is.before is.running is.there))
+comes_of_turn place walks old new false is = has_rested place walks old new false is (is.comes (steps_at place walks) (ready_at place walks old is.before is.running is.there))
+
+-- the same, where the step may have failed
+pub comes_of_turn_if_ok : {E : Type 0} (result : Result Truth E) (place : ℕ) (old new : Running) (before after : Session) → HasPrograms old.core.workload → LeavesOthersTied
+    → slice_get old.sessions.items place ≡ Some before → new.sessions.items ≡ set old.sessions.items place after
+    → IfOk result (λ goes_on. (steps : List Step) → IsReady old.core steps before → ComesOfStep old.core new.core before steps after goes_on)
+    → IfOk result (λ goes_on. (walks : List (List Step)) → IsRunning walks old → ComesOfTurn place walks old new goes_on)
+comes_of_turn_if_ok (Ok goes_on) place old new before after has leaves there put comes = λ walks running. comes_of_turn place walks old new goes_on record {
+  has = has;
+  leaves = leaves;
+  running = running;
+  before = before;
+  after = after;
+  there = there;
+  put = put;
+  comes = comes;
+}
+comes_of_turn_if_ok (Err error) place old new before after has leaves there put comes = tt

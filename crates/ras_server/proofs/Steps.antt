@@ -5,9 +5,11 @@ use Rattle.std.specs.List.{AllByRecursion}
 use Rattle.ras_syntax.specs.declared.event.Event.{Event}
 use Rattle.ras_syntax.specs.declared.event.Event.TheVariants as events
 use Rattle.spec_histories.specs.History.{History, Programs}
+use Rattle.spec_histories.specs.Legal.{IsLegal}
+use Rattle.spec_histories.specs.Serializable.{HasRoom}
 use Rattle.spec_sessions.specs.Printable.{is_given_up}
 use Rattle.spec_sessions.specs.Walk.{ReadScript, Step, is_over, made, quiet}
-use Rattle.ras_core.specs.States.{AreProgramsOf, CoreState, IsLegalState}
+use Rattle.ras_core.specs.States.{AreProgramsOf, CoreState, FIRST_IDENTIFIERS, IsLegalState}
 use Rattle.ras_store.specs.declared.workload.Workload.{Workload}
 use Rattle.ras_session.specs.declared.request.CoreReply.{CoreReply}
 use Rattle.ras_session.specs.declared.request.CoreReply.TheVariants as replies
@@ -96,6 +98,29 @@ kept_event old new Local replies.Nothing event keeping is served =
 kept_event old new Ended replies.Nothing event keeping is served =
     absurd (no_longer event old.history new.history is (ap (λ (s : CoreState). s.history) served))
 kept_event old new request reply event keeping is served = absurd served
+
+-- ---- the request
+
+-- what is prepared over a history in which the session stands
+abbrev pub PreparesFor : Workload → Session → Session → Request → Type 0
+PreparesFor workload before prepared request =
+    (programs : Programs) (past : History) (steps : List Step) → AreProgramsOf workload programs → IsLegal programs past → HasRoom FIRST_IDENTIFIERS past
+    → IsTied programs (script_in workload before.number) past steps before
+    → IsPreparedRequest programs (script_in workload before.number) past steps prepared request
+
+module _ (core : CoreState) (workload : Workload) (before prepared : Session) (request : Request) (same : workload ≡ core.workload)
+    (prepares : PreparesFor workload before prepared request) (steps : List Step) (ready : IsReady core steps before) where
+  pub prepared_so : (programs : Programs) → AreProgramsOf core.workload programs
+      → IsPreparedRequest programs (script_in core.workload before.number) core.history steps prepared request
+  prepared_so programs are =
+      let state = ready.legal programs are in
+      let over : PreparesFor core.workload before prepared request = subst (λ w. PreparesFor w before prepared request) same prepares in
+      over programs core.history steps are state.legal state.room (ready.tied programs are)
+
+  pub prepared_by_number : prepared.number ≡ before.number → (programs : Programs) → AreProgramsOf core.workload programs
+      → IsPreparedRequest programs (script_in core.workload prepared.number) core.history steps prepared request
+  prepared_by_number number programs are =
+      subst (λ n. IsPreparedRequest programs (script_in core.workload n) core.history steps prepared request) (sym number) (prepared_so programs are)
 
 -- ---- the step
 

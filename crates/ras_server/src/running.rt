@@ -1,5 +1,5 @@
 //! All sessions of a workload under way.
-ghost use Rattle.std.specs.Prelude.{◌≡◌, ℕ, suc, ◌<◌, ◌≤◌, List as ListOf, [], length, replicate, IfOk, OnOk, MatchOption, slice_get};
+ghost use Rattle.std.specs.Prelude.{◌≡◌, ℕ, suc, ◌<◌, Bool as Truth, List as ListOf, [], length, replicate, IfOk, OnOk, MatchOption};
 ghost use Rattle.std.specs.Arc.{arc_value};
 ghost use Rattle.ras_core.specs.States.{AreProgramsOf};
 ghost use Rattle.ras_server.specs.Running.{AreNew, ComesOfTurn, DrainsTo, FollowsBy, IsDraining, IsFollowing, IsRunning, IsSameRun, lines_in};
@@ -162,7 +162,7 @@ impl Running {
         requires draining { (turns : ListOf ℕ) × IsDraining turns place self.old }
         requires place { place < length self.old.sessions.items }
         ensures same { OnOk result (IsSameRun self.old self.new) }
-        ensures drains { OnOk result (DrainsTo place (place + 1) self.old self.new) }
+        ensures drains { OnOk result (DrainsTo place (suc place) self.old self.new) }
     {
         for _ in 0..u64::MAX {
             if !self.turn(rt, alloc, place, workers)? {
