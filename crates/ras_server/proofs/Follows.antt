@@ -2,7 +2,7 @@
 use Rattle.std.proofs.Common.{◌≡◌, ◌≢◌, ℕ, zero, suc, ◌+◌, ◌-◌, ◌<◌, ◌≤◌, Bool as Truth, true, false, inl, inr, ◌⊎◌, List, [], ◌∷◌, ◌++◌, flat_map, length, map, get_or, replicate, reverse, take, Option, Some, None, refl, sym, ap, ◌∙◌, subst, arith, add-zero, zero-add, add-one}
 use Rattle.std.specs.Prelude.{IsTrue, nat_le, slice_get}
 use Rattle.std.specs.List.{AllByRecursion}
-use Rattle.std.proofs.lemmas.Bool.{cases_eq, cond-true, le-leb}
+use Rattle.std.proofs.lemmas.Bool.{cases_eq, cond-true, false≢true, le-leb}
 use Rattle.std.proofs.lemmas.Grind.{flat_map-append}
 use Rattle.std.proofs.lemmas.List.{append-nil, append_assoc, length-map, replicate-append-replicate, reverse-append, reverse-reverse}
 use Rattle.std.proofs.lemmas.Option.{slice_get_cases, slice_get_within}
@@ -120,6 +120,19 @@ has_still old new same has = subst HasPrograms (sym same.workload) has
 pub turn_same : (place : ℕ) (walks : List (List Step)) (old new : Running) (goes_on : Truth) → ComesOfTurn place walks old new goes_on → IsSameRun old new
 turn_same place walks old new true comes = comes.same
 turn_same place walks old new false comes = comes.same
+
+-- what a turn that went on, or one that didn't, was
+pub turned_by : (place : ℕ) (old new : Running) (goes_on : Truth) → goes_on ≡ true
+    → ((walks : List (List Step)) → IsRunning walks old → ComesOfTurn place walks old new goes_on)
+    → (walks : List (List Step)) → IsRunning walks old → HasTurned place walks old new
+turned_by place old new true is comes = comes
+turned_by place old new false is comes = absurd (false≢true is)
+
+pub rested_by : (place : ℕ) (old new : Running) (goes_on : Truth) → goes_on ≡ false
+    → ((walks : List (List Step)) → IsRunning walks old → ComesOfTurn place walks old new goes_on)
+    → (walks : List (List Step)) → IsRunning walks old → HasRested place walks old new
+rested_by place old new true is comes = absurd (false≢true (sym is))
+rested_by place old new false is comes = comes
 
 -- ---- along the schedule
 
