@@ -184,7 +184,8 @@ impl Running {
         ensures same { OnOk result (IsSameRun self.old self.new) }
         ensures drains { OnOk result (DrainsTo 0 (length self.new.sessions.items) self.old self.new) }
     {
-        for place in 0..self.sessions.len() {
+        let count = self.sessions.len();
+        for place in 0..count {
             self.go_to_end(rt, alloc, place, workers)?;
         }
         Ok(())

@@ -1,4 +1,4 @@
-use Rattle.std.proofs.Common.{◌≡◌, suc, length, subst, sym, ◌∙◌, arith, ap, length-append, add-one}
+use Rattle.std.proofs.Common.{◌≡◌, suc, [], Some, length, subst, sym, ◌∙◌, arith, ap, length-append}
 use Rattle.ras_session.specs.Tied.{IsTied, script_in}
 use Rattle.spec_histories.specs.History.{nth}
 use Rattle.ras_server.specs.Running.{AreNew}
@@ -12,7 +12,7 @@ loop-place-preserved c =
       count = omega (arith, simp length-append at (ap length c.in_ok-push.ensures.items), c.loop-place.invariant.count);
       new = subst AreNew (sym c.in_ok-push.ensures.items) (
         new_more c.loop-place.sessions.items c.new.result c.loop-place.invariant.new (c.new.ensures.number ∙ one) (λ programs workload script are at.
-            subst (λ n. IsTied programs (script_in workload n) _ _ c.new.result) one
-            (c.new.ensures.tied programs workload script are (subst (λ n. nth n workload.scripts ≡ _) (sym one) at)))
+            subst (λ n. IsTied programs (script_in workload n) [] [] c.new.result) one
+            (c.new.ensures.tied programs workload script are (subst (λ n. nth n workload.scripts ≡ Some script) (sym one) at)))
       );
     }

@@ -3,7 +3,7 @@ use Rattle.ras_server.proofs.Follows.{drains_rest, drains_turn, has_still, reste
 use Rattle.ras_server.proofs.running.Running.go_to_end.Goals as goal
 
 pub turn-requires-clause-witness : goal.turn-requires-clause-witness
-turn-requires-clause-witness g c = has_still c.args.self.now c.loop.self c.loop.invariant.same c.requires.witness
+turn-requires-clause-witness g c = λ κs within. has_still c.args.self.now c.loop.self c.loop.invariant.same c.requires.witness
 
 pub turn-requires-clause-running : goal.turn-requires-clause-running
 turn-requires-clause-running g c =

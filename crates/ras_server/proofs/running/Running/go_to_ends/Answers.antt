@@ -4,7 +4,7 @@ use Rattle.ras_server.proofs.Follows.{has_still, same_then}
 use Rattle.ras_server.proofs.running.Running.go_to_ends.Goals as goal
 
 pub go_to_end-requires-clause-witness : goal.go_to_end-requires-clause-witness
-go_to_end-requires-clause-witness g c = has_still c.args.self.now c.loop-place.self c.loop-place.invariant.same c.requires.witness
+go_to_end-requires-clause-witness g c = λ κs within. has_still c.args.self.now c.loop-place.self c.loop-place.invariant.same c.requires.witness
 
 pub go_to_end-requires-clause-draining : goal.go_to_end-requires-clause-draining
 go_to_end-requires-clause-draining g c = λ κs within. (

@@ -4,13 +4,13 @@ use Rattle.ras_server.proofs.Follows.{follows_more, follows_none, follows_rest, 
 use Rattle.ras_server.proofs.running.Running.take_turns.Goals as goal
 
 pub returns-in_default-clause-follows : goal.returns-in_default-clause-follows
-returns-in_default-clause-follows g c = let h = c.place_of in let k = c.in_default in ?
+returns-in_default-clause-follows g c = follows_none c.args.session c.args.repeat c.args.self.now c.in_default.ensures
 
 pub loop-init : goal.loop-init
 loop-init g c = record { same = same_start c.args.self.now; follows = follows_start c.args.self.now }
 
 pub turn-requires-clause-witness : goal.turn-requires-clause-witness
-turn-requires-clause-witness g c = has_still c.args.self.now c.loop.self c.loop.invariant.same c.requires.witness
+turn-requires-clause-witness g c = λ κs within. has_still c.args.self.now c.loop.self c.loop.invariant.same c.requires.witness
 
 pub turn-requires-clause-running : goal.turn-requires-clause-running
 turn-requires-clause-running g c =
