@@ -1,6 +1,6 @@
 -- How a run goes on, turn by turn, and what it gives at its end.
-use Rattle.std.proofs.Common.{◌≡◌, ◌≢◌, ℕ, zero, suc, ◌+◌, ◌-◌, ◌<◌, ◌≤◌, Bool as Truth, true, false, inl, inr, ◌⊎◌, List, [], ◌∷◌, ◌++◌, flat_map, length, map, get_or, replicate, reverse, take, Option, Some, None, refl, sym, ap, ◌∙◌, subst, arith, add-zero, zero-add, add-one}
-use Rattle.std.specs.Prelude.{IsTrue, nat_le, slice_get}
+use Rattle.std.proofs.Common.{◌≡◌, ◌≢◌, ℕ, zero, suc, ◌+◌, ◌-◌, ◌<◌, ◌≤◌, Bool as Truth, true, false, inl, inr, ◌⊎◌, List, [], ◌∷◌, ◌++◌, flat_map, length, map, get_or, replicate, reverse, take, Option, Some, None, Result, Ok, Err, refl, sym, ap, ◌∙◌, subst, arith, add-zero, zero-add, add-one}
+use Rattle.std.specs.Prelude.{IfOk, IsTrue, nat_le, slice_get}
 use Rattle.std.specs.List.{AllByRecursion}
 use Rattle.std.proofs.lemmas.Bool.{cases_eq, cond-true, false≢true, le-leb}
 use Rattle.std.proofs.lemmas.Grind.{flat_map-append}
@@ -361,3 +361,14 @@ module _ (run : Running) (schedule : List (ℕ × ℕ)) (drains : IsDraining (tu
     keeps = subst (λ past. Keeps programs.types (store_kept store) (committed_database programs past)) (sym history)
         (subst (λ s. Keeps programs.types (store_kept s) (committed_database programs run.core.history)) (sym same) state.keeps);
   }
+
+-- what a call gives, where it gives something
+pub kept_if_ok : {E : Type 0} (result : Result (OutcomeValue × Store) E) (run : Running) (workload : Workload) (schedule : List (ℕ × ℕ)) → run.core.workload ≡ workload
+    → IsDraining (turns_of schedule) (length run.sessions.items) run
+    → IfOk result (λ found. (schedule : List (ℕ × ℕ)) → IsDraining (turns_of schedule) (length run.sessions.items) run → (programs : Programs)
+    → AreProgramsOf run.core.workload programs → IsRunTo programs (scripts_of run.core.workload) schedule found.0 found.1)
+    → IfOk result (λ found. (programs : Programs) → AreProgramsOf workload programs → IsRunTo programs (scripts_of workload) schedule found.0 found.1)
+kept_if_ok (Ok found) run workload schedule same drains gives = λ programs are.
+    subst (λ w. IsRunTo programs (scripts_of w) schedule found.0 found.1) same
+    (gives schedule drains programs (subst (λ w. AreProgramsOf w programs) (sym same) are))
+kept_if_ok (Err error) run workload schedule same drains gives = tt

@@ -11,8 +11,8 @@ loop-place-preserved c =
     record {
       count = omega (arith, simp length-append at (ap length c.in_ok-push.ensures.items), c.loop-place.invariant.count);
       new = subst AreNew (sym c.in_ok-push.ensures.items) (
-        new_more c.loop-place.sessions.items c.new.result c.loop-place.invariant.new (c.new.ensures.number ∙ one) (λ programs workload script are at.
-            subst (λ n. IsTied programs (script_in workload n) [] [] c.new.result) one
-            (c.new.ensures.tied programs workload script are (subst (λ n. nth n workload.scripts ≡ Some script) (sym one) at)))
-      );
+          new_more c.loop-place.sessions.items c.new.result c.loop-place.invariant.new (c.new.ensures.number ∙ one) (λ programs workload script are at.
+          subst (λ n. IsTied programs (script_in workload n) [] [] c.new.result) one
+          (c.new.ensures.tied programs workload script are (subst (λ n. nth n workload.scripts ≡ Some script) (sym one) at)))
+          );
     }
