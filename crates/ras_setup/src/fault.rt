@@ -1,0 +1,45 @@
+//! Why a text is no workload.
+ghost use Rattle.std.specs.Prelude.{◌≡◌};
+ghost use Rattle.ras_setup.specs.declared.fault.WorkloadRefusal.TheVariants.{Outline};
+ghost use Rattle.ras_workload.specs.declared.fault.WorkloadFault.TheVariants.{Memory};
+
+use ras_syntax::{Answer, SyntaxFault};
+use ras_workload::WorkloadFault;
+use std::alloc::AllocError;
+
+/// Why a setup fails at a statement.
+#[derive(Debug, Drop)]
+pub enum SetupFault {
+    /// The text is no statement.
+    Syntax(SyntaxFault),
+    /// It has any answer but that it is done.
+    Answer(Answer),
+    /// It is a session word.
+    Word,
+}
+
+/// Why a text is no workload.
+#[derive(Debug, Drop)]
+pub enum WorkloadRefusal {
+    /// The text has no outline; or there is not enough memory, for the outline or for the setup
+    /// ([`WorkloadFault::Memory`]).
+    Outline(WorkloadFault),
+    /// The setup's statement of this number, counted from 1, is the first that isn't done.
+    SetupFailed { statement: u32, fault: SetupFault },
+}
+
+impl From<AllocError> for WorkloadRefusal {
+    ghost from_gives = { λ _ e. e ≡ Outline Memory };
+
+    fn from(_: AllocError) -> WorkloadRefusal {
+        WorkloadRefusal::Outline(WorkloadFault::Memory)
+    }
+}
+
+impl From<WorkloadFault> for WorkloadRefusal {
+    ghost from_gives = { λ fault e. e ≡ Outline fault };
+
+    fn from(fault: WorkloadFault) -> WorkloadRefusal {
+        WorkloadRefusal::Outline(fault)
+    }
+}

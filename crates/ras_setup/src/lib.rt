@@ -1,0 +1,8 @@
+//! Reads workloads: a text's types and sessions, and the database that its setup leaves.
+#![tactic(auto)]
+
+mod fault;
+mod read;
+
+pub use fault::{SetupFault, WorkloadRefusal};
+pub use read::{read_whole_workload, read_workload};
