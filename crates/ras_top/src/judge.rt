@@ -137,7 +137,10 @@ fn run<R: Threads + Sync>(
     let Ok(workload) = Arc::new(alloc, workload) else {
         return Answer::NoMemory;
     };
-    match run_shared(rt, alloc, workload.clone(), schedule, workers) {
+    let Ok(shared) = workload.clone() else {
+        return Answer::NoMemory;
+    };
+    match run_shared(rt, alloc, shared, schedule, workers) {
         Ok(outcome) => Answer::Report { workload, outcome },
         Err(_) => Answer::NoMemory,
     }
