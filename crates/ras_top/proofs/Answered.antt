@@ -22,7 +22,7 @@ asked-one words one other a b = sym a.same ∙ ap asked_by (means_one words a.ou
 same-command : (words : List Text) (one other : Command) → AskFor words (Ok one) → AskFor words (Ok other) → one ≡ other
 same-command words one other a b = let e = asked-one words (Ok one) (Ok other) a b in cc e
 
-never-both : (words : List Text) (command : Command) (fault : WordsFault) → AskFor words (Ok command) → AskFor words (Err fault) → ⊥
+pub never-both : (words : List Text) (command : Command) (fault : WordsFault) → AskFor words (Ok command) → AskFor words (Err fault) → ⊥
 never-both words command fault a b = let e = asked-one words (Ok command) (Err fault) a b in cc e
 
 -- ---- what is found of the text

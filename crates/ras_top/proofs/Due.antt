@@ -1,6 +1,6 @@
 -- What the answers of the code say.
-use Rattle.std.proofs.Common.{◌≡◌, ℕ, List, Option, false, refl, ap}
-use Rattle.std.specs.Prelude.{Some, None, Ok}
+use Rattle.std.proofs.Common.{◌≡◌, ◌≢◌, ℕ, List, Option, false, refl, ap}
+use Rattle.std.specs.Prelude.{Some, None, Ok, Err}
 use Rattle.std.specs.Arc.{arc_value}
 use Rattle.std.specs.declared.sync.Arc.{Arc}
 use Rattle.std.specs.declared.alloc.Global.{Global}
@@ -15,12 +15,14 @@ use Rattle.ras_store.specs.declared.workload.Workload.{Workload}
 use Rattle.ras_core.specs.States.{AreProgramsOf}
 use Rattle.ras_server.specs.Runs.{IsRunOf, scripts_of}
 use Rattle.ras_settings.specs.Schedule.{Turns}
+use Rattle.ras_settings.specs.declared.settings.WordsFault.{WordsFault}
+use Rattle.ras_settings.specs.declared.settings.WordsFault.TheVariants as faults
 use Rattle.spec_histories.specs.History.{Programs}
 use Rattle.spec_sessions.specs.Outcomes.{OutcomeValue}
 use Rattle.spec_sessions.specs.Report.{report_text}
 use Rattle.ras_top.proofs.Programs.{answered-once, run-by}
-use Rattle.ras_top.specs.Answer.{IsAnswerBy, IsAnswerDue, IsAnswerOf, Says, is_wanting}
-use Rattle.ras_top.specs.Commands.{AskFor}
+use Rattle.ras_top.specs.Answer.{IsAnswerBy, IsAnswerDue, IsAnswerOf, Says, answer_to, is_wanting}
+use Rattle.ras_top.specs.Commands.{AskFor, asked_by}
 use Rattle.ras_top.specs.Said.{IsDue, IsSaidBy, IsSaidOf, Said, WasRead, bad_words, checks, no_memory, read_failed, refusal, report, too_long}
 use Rattle.ras_top.specs.declared.answer.Answer.{Answer}
 use Rattle.ras_top.specs.declared.answer.Answer.TheVariants as answer
@@ -98,3 +100,15 @@ module _ (input rest : Option Text) (before after : ℕ) where
 
   pub answer-due : (words : List Text) (command : Command) (a : Answer) → AskFor words (Ok command) → IsAnswerBy input rest before after command a → IsAnswerDue input rest before after words a
   answer-due words command a asked by = record { said = by.said; due = said-due by.said words command asked by.due; says = by.says }
+
+  -- words that ask for no command
+  refused-words : (words : List Text) (fault : WordsFault) → AskFor words (Err fault) → IsAnswerDue input rest before after words (answer.BadWords fault)
+  refused-words words fault asked = record { said = bad_words fault; due = asked; says = record { status = refl; text = refl; written = tt } }
+
+  pub words-due : (words : List Text) (fault : WordsFault) → (asked_by (Err fault) ≢ asked_by (Err faults.Memory) → AskFor words (Err fault))
+      → IsAnswerDue input rest before after words (answer_to fault)
+  words-due words faults.Refused asked = refused-words words faults.Refused (asked (λ e. absurd (cc e)))
+  words-due words faults.UnknownCommand asked = refused-words words faults.UnknownCommand (asked (λ e. absurd (cc e)))
+  words-due words faults.OptionNotOfCommand asked = refused-words words faults.OptionNotOfCommand (asked (λ e. absurd (cc e)))
+  words-due words (faults.BadSchedule place) asked = refused-words words (faults.BadSchedule place) (asked (λ e. absurd (cc e)))
+  words-due words faults.Memory asked = record { said = no_memory; due = tt; says = record { status = refl; text = refl; written = tt } }

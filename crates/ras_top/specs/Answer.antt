@@ -3,6 +3,8 @@ use Rattle.std.specs.Prelude.{◌≡◌, ℕ, Bool, true, false, List, Option, S
 use Rattle.std.specs.Arc.{arc_value}
 use Rattle.ras_commands.specs.Texts.{checks_text, refusal_text}
 use Rattle.ras_report.specs.Once.{AreAnsweredOnce}
+use Rattle.ras_settings.specs.declared.settings.WordsFault.{WordsFault}
+use Rattle.ras_settings.specs.declared.settings.WordsFault.TheVariants.{Memory}
 use Rattle.ras_setup.specs.Found.{IsWorkload}
 use Rattle.ras_store.specs.declared.workload.Workload.{Workload}
 use Rattle.spec_commands.specs.Commands.{whole_workload_of}
@@ -73,7 +75,12 @@ pub record IsOfText (workload : Workload) : Type 0 where
   pub found : whole_workload_of text ≡ Ok value
   pub is : IsWorkload value workload
 
--- ---- faults of texts
+-- ---- faults
+
+-- to words that ask for no command, or for which memory was wanting
+abbrev pub answer_to : WordsFault → Answer
+answer_to Memory = NoMemory
+answer_to fault = BadWords fault
 
 -- memory was wanting, and there is no fault
 abbrev pub is_wanting : Option WorkloadFaultValue → Bool

@@ -6,7 +6,7 @@ ghost use Rattle.ras_setup.specs.Found.{IsWantedFault, IsWorkload, refusal_seen}
 ghost use Rattle.spec_commands.specs.Commands.{whole_workload_of};
 ghost use Rattle.spec_grammar.specs.Tokens.{Text};
 ghost use Rattle.spec_workloads.specs.Setup.{WorkloadValue};
-ghost use Rattle.ras_top.specs.Answer.{IsAnswerBy, IsAnswerDue, IsAnswerOf, IsOfText, is_wanting};
+ghost use Rattle.ras_top.specs.Answer.{IsAnswerBy, IsAnswerDue, IsAnswerOf, IsOfText, answer_to, is_wanting};
 ghost use Rattle.ras_top.specs.Commands.{AskFor};
 ghost use Rattle.ras_top.specs.declared.TheConstants.{MOST_BYTES};
 ghost use Rattle.ras_top.specs.declared.command.Command.{Command};
@@ -41,8 +41,20 @@ pub fn judge<R: Threads + Sync, S: Source>(
 {
     match read_command(alloc, words) {
         Ok(command) => judge_source(rt, alloc, command, source),
-        Err(WordsFault::Memory) => Answer::NoMemory,
-        Err(fault) => Answer::BadWords(fault),
+        Err(fault) => refuse_words(fault),
+    }
+}
+
+/// The answer to words that ask for no command, or for which memory was wanting.
+fn refuse_words(fault: WordsFault) -> Answer
+    ensures { result ≡ answer_to fault }
+{
+    match fault {
+        WordsFault::Memory => Answer::NoMemory,
+        WordsFault::Refused
+        | WordsFault::UnknownCommand
+        | WordsFault::OptionNotOfCommand
+        | WordsFault::BadSchedule { .. } => Answer::BadWords(fault),
     }
 }
 
@@ -137,7 +149,10 @@ fn run<R: Threads + Sync>(
     let Ok(workload) = Arc::new(alloc, workload) else {
         return Answer::NoMemory;
     };
-    match run_shared(rt, alloc, workload.clone(), schedule, workers) {
+    let Ok(shared) = workload.clone() else {
+        return Answer::NoMemory;
+    };
+    match run_shared(rt, alloc, shared, schedule, workers) {
         Ok(outcome) => Answer::Report { workload, outcome },
         Err(_) => Answer::NoMemory,
     }
