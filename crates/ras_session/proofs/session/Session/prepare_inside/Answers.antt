@@ -3,7 +3,7 @@ use Rattle.law_walks.specs.Session.{asking_in}
 use Rattle.ras_syntax.specs.declared.statement.Word.TheVariants.{Commit}
 use Rattle.ras_walk.specs.Places.{opened_seen}
 use Rattle.ras_walk.specs.declared.place.Item.TheVariants.{Word}
-use Rattle.ras_session.proofs.Places.{data_behind, inside_commits}
+use Rattle.ras_session.proofs.Places.{data_behind, inside_commits, tells}
 use Rattle.ras_session.proofs.Ties.{if_ok}
 use Rattle.ras_session.proofs.session.Session.prepare_inside.Goals as goal
 
@@ -20,3 +20,7 @@ returns-in-Data-clause-prepared g c =
     data_behind c.args.workload.now c.args.self.now c.read.new.self c.prepare_data.new.self c.in_ok-item.item c.args.opened.t request c.in_ok-item.ensures.read
     (ap asking_in place) c.in-Data.is prepared)
     c.prepare_data.ensures.prepared
+
+pub returns-in_ok-tell-in-Fault-clause-prepared : goal.returns-in_ok-tell-in-Fault-clause-prepared
+returns-in_ok-tell-in-Fault-clause-prepared g c = λ granted place.
+    tells c.args.workload.now c.args.self.now c.read.new.self c.tell.new.self c.in_ok-item.item c.in_ok-item.ensures.read c.in_ok-tell-in-Fault.ensures.told
