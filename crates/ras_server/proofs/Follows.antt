@@ -1,12 +1,11 @@
 -- How a run goes on, turn by turn, and what it gives at its end.
-use Rattle.std.proofs.Common.{◌≡◌, ◌≢◌, ℕ, zero, suc, ◌+◌, ◌-◌, ◌<◌, ◌≤◌, Bool as Truth, true, false, inl, inr, ◌⊎◌, List, [], ◌∷◌, ◌++◌, flat_map, length, map, get_or, replicate, reverse, take, Option, Some, None, Result, Ok, Err, refl, sym, ap, ◌∙◌, subst, arith, add-zero, zero-add, add-one}
-use Rattle.std.specs.Prelude.{IfOk, IsTrue, nat_le, slice_get}
+use Rattle.std.proofs.Common.{◌≡◌, ◌≢◌, ℕ, zero, suc, ◌+◌, ◌-◌, ◌<◌, ◌≤◌, Bool as Truth, true, false, inl, inr, ◌⊎◌, List, [], ◌∷◌, ◌++◌, flat_map, length, map, get_or, replicate, reverse, Some, None, Result, Ok, Err, refl, sym, ap, ◌∙◌, subst, arith, zero-add}
+use Rattle.std.specs.Prelude.{IfOk, nat_le, slice_get}
 use Rattle.std.specs.List.{AllByRecursion}
 use Rattle.std.proofs.lemmas.Bool.{cases_eq, cond-true, false≢true, le-leb}
 use Rattle.std.proofs.lemmas.Grind.{flat_map-append}
 use Rattle.std.proofs.lemmas.List.{append-nil, append_assoc, length-map, replicate-append-replicate, reverse-append, reverse-reverse}
 use Rattle.std.proofs.lemmas.Option.{slice_get_cases, slice_get_within}
-use Rattle.ras_syntax.specs.declared.event.Event.{Event}
 use Rattle.ras_syntax.specs.declared.types.Script.{Script}
 use Rattle.law_lists.proofs.Each.{append_all}
 use Rattle.spec_histories.specs.History.{History, Programs, committed_database, nth}
@@ -15,7 +14,7 @@ use Rattle.spec_histories.specs.Serializable.{IsSerializable}
 use Rattle.spec_sessions.specs.Begins.{read_script}
 use Rattle.spec_sessions.specs.Outcomes.{IsMadeBy, IsWholeWalkOf, OutcomeValue, events_in, paced_events, session_events, turns_of}
 use Rattle.spec_sessions.specs.Printable.{all_lines}
-use Rattle.spec_sessions.specs.Walk.{Line, ReadScript, Step, is_over, made, quiet, walk}
+use Rattle.spec_sessions.specs.Walk.{Line, Step, made, quiet, walk}
 use Rattle.ras_core.specs.States.{AreProgramsOf, IsLegalState}
 use Rattle.ras_store.specs.Databases.{Keeps}
 use Rattle.ras_store.specs.Store.{store_kept}

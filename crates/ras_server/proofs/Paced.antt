@@ -1,11 +1,11 @@
 -- The order of the events of sessions that step turn by turn, whatever steps come later.
-use Rattle.std.proofs.Common.{◌≡◌, ◌≢◌, ℕ, zero, suc, ◌+◌, ◌<◌, ◌≤◌, Bool as Truth, true, false, List, [], ◌∷◌, ◌++◌, flat_map, get_or, length, map, replicate, reverse, set, refl, sym, ap, ◌∙◌, subst, arith, inl, inr, ◌⊎◌}
+use Rattle.std.proofs.Common.{◌≡◌, ◌≢◌, ℕ, zero, suc, ◌<◌, Bool as Truth, true, false, List, [], ◌∷◌, ◌++◌, flat_map, get_or, length, map, replicate, reverse, refl, sym, ap, ◌∙◌, subst, arith, inl, inr}
 use Rattle.std.proofs.lemmas.Bool.{cases_eq, false≢true}
 use Rattle.std.proofs.lemmas.List.{append-nil, append_assoc, get_or-set_other, get_or_past, length-replicate, length-set, reverse-append}
 use Rattle.ras_syntax.specs.declared.event.Event.{Event}
 use Rattle.spec_sessions.specs.Outcomes.{behind_next, event_of_first, events_in, next_event, paced_events}
 use Rattle.spec_sessions.specs.Walk.{Step, made, quiet}
-use Rattle.ras_server.specs.Turns.{IsEndedWith, IsIdleTurn, IsLeftBy, IsPacedBy, MayCome, event_of_step, joined, steps_at, with_step}
+use Rattle.ras_server.specs.Turns.{IsEndedWith, IsIdleTurn, IsLeftBy, IsPacedBy, MayCome, event_of_step, joined, with_step}
 
 -- ---- walks with steps behind them
 

@@ -1,8 +1,8 @@
 -- What comes of a session's turn for it and for the other sessions.
-use Rattle.std.proofs.Common.{◌≡◌, ◌≢◌, ℕ, zero, suc, ◌<◌, Bool as Truth, true, false, ◌==◌, inl, inr, List, [], ◌∷◌, ◌++◌, length, set, get_or, Option, Some, None, Result, Ok, Err, refl, sym, ap, ◌∙◌, subst, arith}
+use Rattle.std.proofs.Common.{◌≡◌, ◌≢◌, ℕ, zero, suc, ◌<◌, Bool as Truth, true, false, inl, inr, List, [], ◌∷◌, ◌++◌, length, set, Option, Some, None, Result, Ok, Err, refl, sym, ap, ◌∙◌, subst, arith}
 use Rattle.std.specs.Prelude.{IfOk, IsTrue, slice_get}
 use Rattle.std.specs.List.{AllByRecursion}
-use Rattle.std.proofs.lemmas.Bool.{cases_eq, eqb-true, eq-eqb}
+use Rattle.std.proofs.lemmas.Bool.{cases_eq, eqb-true}
 use Rattle.std.proofs.lemmas.List.{get_or-set_other, get_or-set_same, length-set}
 use Rattle.std.proofs.lemmas.Option.{slice_get_within}
 use Rattle.ras_syntax.specs.declared.event.Event.{Event}
@@ -12,14 +12,14 @@ use Rattle.spec_histories.specs.Legal.{IsLegal}
 use Rattle.spec_histories.specs.Serializable.{ArePrograms, HasRoom}
 use Rattle.spec_views.specs.Sessions.{IsQuiet}
 use Rattle.spec_sessions.specs.Outcomes.{began_in, events_in, session_events}
-use Rattle.spec_sessions.specs.Walk.{ReadScript, Step, is_over, made, quiet, walk, Walked}
-use Rattle.ras_core.specs.States.{AreProgramsOf, CoreState, FIRST_IDENTIFIERS, IsLegalState}
+use Rattle.spec_sessions.specs.Walk.{ReadScript, Step, is_over, made, quiet, walk}
+use Rattle.ras_core.specs.States.{AreProgramsOf, FIRST_IDENTIFIERS}
 use Rattle.ras_store.specs.declared.workload.Workload.{Workload}
 use Rattle.ras_session.specs.declared.session.Session.{Session}
 use Rattle.ras_session.specs.Tied.{IsTied, script_in, walked_by}
 use Rattle.ras_server.specs.Running.{ComesOfStep, ComesOfTurn, HasEnded, HasRested, HasStepped, HasTurned, IsReady, IsRunning, IsSameRun, is_session_through, is_through}
 use Rattle.ras_server.specs.Runs.{HasPrograms}
-use Rattle.ras_server.specs.Turns.{IsEndedWith, IsKeptEvent, event_of_step, steps_at, with_step}
+use Rattle.ras_server.specs.Turns.{IsKeptEvent, event_of_step, steps_at, with_step}
 use Rattle.ras_server.specs.declared.running.Running.{Running}
 use Rattle.ras_server.proofs.Wholes.{was_going}
 

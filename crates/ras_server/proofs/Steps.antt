@@ -1,7 +1,6 @@
 -- What comes of one step of a session that the core serves.
-use Rattle.std.proofs.Common.{◌≡◌, ℕ, suc, ◌<◌, Bool as Truth, true, false, not, inl, inr, List, [], ◌∷◌, ◌++◌, length, refl, sym, ap, ◌∙◌, subst, arith}
+use Rattle.std.proofs.Common.{◌≡◌, suc, false, not, inl, inr, List, ◌∷◌, length, refl, sym, ap, ◌∙◌, subst, arith}
 use Rattle.std.specs.Prelude.{IsTrue}
-use Rattle.std.specs.List.{AllByRecursion}
 use Rattle.ras_syntax.specs.declared.event.Event.{Event}
 use Rattle.ras_syntax.specs.declared.event.Event.TheVariants as events
 use Rattle.spec_histories.specs.History.{History, Programs}
@@ -21,7 +20,7 @@ use Rattle.ras_session.specs.Served.{IsServed}
 use Rattle.ras_session.specs.Tied.{IsTied, script_in, walked_by}
 use Rattle.ras_server.specs.Requests.{is_ended}
 use Rattle.ras_server.specs.Running.{ComesOfStep, HasEnded, HasStepped, IsReady, IsSameSession}
-use Rattle.ras_server.specs.Turns.{IsKeptEvent, event_of_step}
+use Rattle.ras_server.specs.Turns.{IsKeptEvent}
 
 -- ---- what serving leaves alone
 

@@ -5,7 +5,6 @@ use Rattle.ras_core.specs.States.{AreProgramsOf, CoreState, IsLegalState}
 use Rattle.ras_session.specs.Tied.{IsTied, script_in, walked_by}
 use Rattle.ras_session.specs.declared.session.Session.{Session}
 use Rattle.spec_histories.specs.History.{Programs, nth}
-use Rattle.spec_sessions.specs.Outcomes.{turns_of}
 use Rattle.spec_sessions.specs.Walk.{Line, Step, is_over}
 use Rattle.ras_store.specs.declared.workload.Workload.{Workload}
 use Rattle.ras_syntax.specs.declared.types.Script.{Script}

@@ -1,7 +1,6 @@
 use Rattle.std.proofs.Common.{◌∙◌, Bool as Truth, not, sym, subst}
 use Rattle.ras_core.specs.States.{AreProgramsOf}
 use Rattle.ras_session.specs.Tied.{script_in}
-use Rattle.ras_server.specs.Requests.{is_ended}
 use Rattle.ras_server.specs.Running.{ComesOfStep}
 use Rattle.ras_server.proofs.Steps.{comes_of_step, prepared_by_number, prepared_so, served_workload}
 use Rattle.ras_server.proofs.stepping.step.Goals as goal
