@@ -5,6 +5,7 @@ ghost use Rattle.ras_core.specs.States.{AreProgramsOf};
 ghost use Rattle.ras_server.specs.Runs.{HasPrograms, IsRunOf, IsRunTo, scripts_of};
 ghost use Rattle.spec_histories.specs.History.{Programs};
 
+use crate::running::Running;
 use ras_outcome::Outcome;
 use ras_store::{Store, Workload};
 use std::alloc::{AllocError, Global};
@@ -24,7 +25,10 @@ pub fn run_keeping<Rt: Threads + Sync>(
     ensures { IfOk result (λ found. (programs : Programs) → AreProgramsOf (arc_value workload) programs
         → IsRunTo programs (scripts_of (arc_value workload)) schedule.now found.0 found.1) }
 {
-    Err(AllocError)
+    let mut run = Running::new(alloc, workload)?;
+    run.follow(rt, alloc, schedule, workers)?;
+    run.go_to_ends(rt, alloc, workers)?;
+    run.close(alloc)
 }
 
 /// Runs all sessions of a workload by a schedule, which is a list of sessions, each with how often its turn

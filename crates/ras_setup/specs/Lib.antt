@@ -1,1 +1,4 @@
+pub mod Ends
 pub mod Found
+pub mod OnTheWay
+pub mod Runs

@@ -1,7 +1,8 @@
 //! Why a text is no workload.
 ghost use Rattle.std.specs.Prelude.{◌≡◌};
+ghost use Rattle.ras_setup.specs.declared.fault.Stop.TheVariants.{Memory as MemoryStop};
 ghost use Rattle.ras_setup.specs.declared.fault.WorkloadRefusal.TheVariants.{Outline};
-ghost use Rattle.ras_workload.specs.declared.fault.WorkloadFault.TheVariants.{Memory};
+ghost use Rattle.ras_setup.specs.Runs.{refusal_of};
 
 use ras_syntax::{Answer, SyntaxFault};
 use ras_workload::WorkloadFault;
@@ -28,18 +29,37 @@ pub enum WorkloadRefusal {
     SetupFailed { statement: u32, fault: SetupFault },
 }
 
-impl From<AllocError> for WorkloadRefusal {
-    ghost from_gives = { λ _ e. e ≡ Outline Memory };
-
-    fn from(_: AllocError) -> WorkloadRefusal {
-        WorkloadRefusal::Outline(WorkloadFault::Memory)
-    }
-}
-
 impl From<WorkloadFault> for WorkloadRefusal {
     ghost from_gives = { λ fault e. e ≡ Outline fault };
 
     fn from(fault: WorkloadFault) -> WorkloadRefusal {
         WorkloadRefusal::Outline(fault)
+    }
+}
+
+/// Why a statement of a setup isn't run.
+#[derive(Debug, Drop)]
+pub(crate) enum Stop {
+    /// The setup fails at it.
+    Fault(SetupFault),
+    /// There is not enough memory.
+    Memory,
+}
+
+impl From<AllocError> for Stop {
+    ghost from_gives = { λ _ e. e ≡ MemoryStop };
+
+    fn from(_: AllocError) -> Stop {
+        Stop::Memory
+    }
+}
+
+/// Why there is no workload where the statement of a number isn't run.
+pub(crate) fn refusal(statement: u32, stop: Stop) -> WorkloadRefusal
+    ensures { result ≡ refusal_of statement stop }
+{
+    match stop {
+        Stop::Fault(fault) => WorkloadRefusal::SetupFailed { statement, fault },
+        Stop::Memory => WorkloadRefusal::Outline(WorkloadFault::Memory),
     }
 }
