@@ -18,7 +18,7 @@ use Rattle.spec_histories.specs.History.{Programs, is_live}
 use Rattle.spec_histories.specs.Legal.{IsDueList, IsFirstBlocked, IsFree}
 use Rattle.ras_locks.specs.Tables.{HeldLocks, IsFirstConflict, holders_of, with_locks}
 use Rattle.ras_core.specs.Asking.{IsGrantOf, IsPieceUnder, IsRefusalOf}
-use Rattle.ras_core.specs.Journal.{JournalState, is_reserved, reserved_without}
+use Rattle.ras_core.specs.Journal.{JournalState, StatementKey, is_reserved, reserved_without}
 use Rattle.ras_core.specs.States.{AreProgramsOf, CoreState, IsCoreOver, state_over, with_closing, with_event}
 use Rattle.ras_core.proofs.CoreSteps.{core-blocked, core-granted, core-refused}
 

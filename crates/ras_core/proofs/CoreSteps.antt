@@ -1,5 +1,5 @@
 -- What is true of every core stays true with each call.
-use Rattle.std.proofs.Common.{◌≡◌, ℕ, suc, ◌+◌, ◌<◌, List, [], ◌∷◌, ◌++◌, Option, refl, reverse, sym, subst, ap, ◌∙◌, arith}
+use Rattle.std.proofs.Common.{◌≡◌, ◌≢◌, ℕ, suc, ◌+◌, ◌<◌, ◌≤◌, List, [], ◌∷◌, ◌++◌, Option, refl, reverse, sym, subst, ap, ◌∙◌, arith}
 use Rattle.std.specs.Prelude.{Contains, IsTrue, count_by, false, option_map}
 use Rattle.std.proofs.lemmas.List.{reverse-append}
 use Rattle.ras_domain.specs.declared.lock.LockName.{LockName}

@@ -1,8 +1,8 @@
 -- What is kept beside the history stays right with each event.
-use Rattle.std.proofs.Common.{◌≡◌, ◌≢◌, ℕ, ◌+◌, ◌<◌, ◌≤◌, inl, inr, Bool, true, false, not, ◌&&◌, ◌||◌, ◌==◌, cond, List, [], ◌∷◌, ◌++◌, refl, sym, subst, ap, ◌∙◌, arith, length-append}
+use Rattle.std.proofs.Common.{◌≡◌, ◌≢◌, ℕ, suc, ◌+◌, ◌<◌, ◌≤◌, inl, inr, Bool, true, false, not, ◌&&◌, ◌||◌, ◌==◌, cond, List, [], ◌∷◌, ◌++◌, length, refl, sym, subst, ap, ◌∙◌, arith, length-append}
 use Rattle.std.specs.Prelude.{IsTrue, count_by, is_some, Option, Some, None}
 use Rattle.std.specs.List.{list_any}
-use Rattle.std.proofs.lemmas.Bool.{and_parts, cases_eq, cases_lt, eq-eqb, eqb-true, false≢true, ne_eqb, or_left, or_right}
+use Rattle.std.proofs.lemmas.Bool.{and_parts, cases_eq, cases_lt, eq-eqb, eqb-true, false≢true, ne_eqb, or_cases, or_left, or_right, cases_Bool}
 use Rattle.std.proofs.lemmas.List.Folds.{list_any-append}
 use Rattle.std.proofs.lemmas.List.Sums.{sum_by-cons}
 use Rattle.std.proofs.lemmas.Map.Views.{any-filter_same}
@@ -12,7 +12,7 @@ use Rattle.ras_syntax.specs.declared.answer.Answer.{Answer}
 use Rattle.ras_syntax.specs.declared.event.Event.{Event}
 use Rattle.ras_syntax.specs.declared.event.Event.TheVariants.{Begun, Granted, Refused, Answered, GaveUp, Committed, Aborted}
 use Rattle.spec_statements.specs.Locks.{Lock}
-use Rattle.spec_histories.specs.History.{History, begun_at, closes, grants, is_closed, is_live, is_open, events_of, owner_of}
+use Rattle.spec_histories.specs.History.{History, begun_at, ends, closes, grants, is_closed, is_live, is_open, events_of, owner_of}
 use Rattle.spec_histories.specs.Legal.{is_begun, is_committed}
 use Rattle.law_histories.proofs.Owners.{each_lives, lives, mine-other, mine-own, no_events-dead}
 use Rattle.ras_core.specs.Journal.{StatementKey, is_key, is_listed_live, is_reserved, live_without, reserved_with, reserved_without, reserved_without_all_of}

@@ -1,5 +1,5 @@
 -- The history stays legal, and what is kept stays its committed database, with each event.
-use Rattle.std.proofs.Common.{◌≡◌, ℕ, suc, ◌-◌, ◌≤◌, Bool, true, false, nat_le, if◌then◌else◌, List, [], ◌∷◌, map, Option, Some, None, refl, reverse, sym, subst, ap, ◌∙◌, arith}
+use Rattle.std.proofs.Common.{◌≡◌, ◌≢◌, ℕ, suc, ◌-◌, ◌≤◌, Bool, true, false, nat_le, if◌then◌else◌, List, [], ◌∷◌, map, Option, Some, None, refl, reverse, sym, subst, ap, ◌∙◌, arith}
 use Rattle.std.specs.Prelude.{Contains, IsTrue, count_by, option_map, slice_get}
 use Rattle.std.proofs.lemmas.List.{length-map}
 use Rattle.std.proofs.lemmas.Option.{slice_get-map}
@@ -8,7 +8,7 @@ use Rattle.ras_domain.specs.declared.lock.Mode.{Mode}
 use Rattle.ras_syntax.specs.declared.answer.Answer.{Answer}
 use Rattle.ras_syntax.specs.declared.event.Event.TheVariants.{Begun, Granted, Refused, Answered, GaveUp, Committed, Aborted}
 use Rattle.ras_syntax.specs.declared.limits.TheConstants.{MAX_STATEMENTS}
-use Rattle.ras_store.specs.Databases.{Keeps, holding_kept, rewrites_of}
+use Rattle.ras_store.specs.Databases.{Keeps, holdings_of, holding_kept, rewrites_of}
 use Rattle.ras_store.specs.Kept.{Kept, changed_by_all}
 use Rattle.ras_store.specs.Store.{store_kept}
 use Rattle.ras_store.specs.declared.change.Change.{Change}
