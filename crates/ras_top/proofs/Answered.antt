@@ -53,13 +53,13 @@ module _ (call : Call) where
       → (workers : ℕ) (schedule : Turns) → AskFor call.words (Ok (Run workers schedule)) → HasRun call schedule
   ran-whole (report workload outcome) due printed done workers schedule asked =
       let is : IsSaidOf (report workload outcome) (Run workers schedule) due.2.0 =
-          subst (λ command. IsSaidOf (report workload outcome) command due.2.0)
-          (same-command call.words due.0 (Run workers schedule) due.1 asked) due.2.2 in
+      subst (λ command. IsSaidOf (report workload outcome) command due.2.0)
+      (same-command call.words due.0 (Run workers schedule) due.1 asked) due.2.2 in
       record { text = due.2.0; workload = workload; outcome = outcome; read = due.2.1; found = is.0; run = is.1; printed = printed }
   ran-whole (checks workload) due printed done workers schedule asked =
       let is : IsSaidOf (checks workload) (Run workers schedule) due.2.0 =
-          subst (λ command. IsSaidOf (checks workload) command due.2.0)
-          (same-command call.words due.0 (Run workers schedule) due.1 asked) due.2.2 in
+      subst (λ command. IsSaidOf (checks workload) command due.2.0)
+      (same-command call.words due.0 (Run workers schedule) due.1 asked) due.2.2 in
       absurd is
   ran-whole (refusal fault) due printed done workers schedule asked = absurd (omega (arith, done))
   ran-whole too_long due printed done workers schedule asked = absurd (omega (arith, done))
@@ -71,11 +71,11 @@ module _ (call : Call) where
       → AskFor call.words (Ok Check) → HasChecked call
   checked-whole (report workload outcome) due printed done asked =
       let is : IsSaidOf (report workload outcome) Check due.2.0 =
-          subst (λ command. IsSaidOf (report workload outcome) command due.2.0) (same-command call.words due.0 Check due.1 asked) due.2.2 in
+      subst (λ command. IsSaidOf (report workload outcome) command due.2.0) (same-command call.words due.0 Check due.1 asked) due.2.2 in
       absurd is
   checked-whole (checks workload) due printed done asked =
       let is : IsSaidOf (checks workload) Check due.2.0 =
-          subst (λ command. IsSaidOf (checks workload) command due.2.0) (same-command call.words due.0 Check due.1 asked) due.2.2 in
+      subst (λ command. IsSaidOf (checks workload) command due.2.0) (same-command call.words due.0 Check due.1 asked) due.2.2 in
       record { text = due.2.0; workload = workload; read = due.2.1; found = is; printed = printed }
   checked-whole (refusal fault) due printed done asked = absurd (omega (arith, done))
   checked-whole too_long due printed done asked = absurd (omega (arith, done))
@@ -145,8 +145,8 @@ module _ (call : Call) where
   whole-status no_memory e = omega (arith, e)
 
   module _
-    (unread : (fault : WordsFault) → AskFor call.words (Err fault) → (call.rest ≡ call.input) × (call.reads_after ≡ call.reads_before))
-    (reads : call.reads_before ≤ call.reads_after) (writes : call.writes_before ≤ call.writes_after) where
+      (unread : (fault : WordsFault) → AskFor call.words (Err fault) → (call.rest ≡ call.input) × (call.reads_after ≡ call.reads_before))
+      (reads : call.reads_before ≤ call.reads_after) (writes : call.writes_before ≤ call.writes_after) where
     -- a call whose text was written whole
     pub answered-whole : (said : Said) → IsDueIn call said → Printed call (text_of said) → IsAnswered call (status_of said)
     answered-whole said due printed = record {

@@ -22,7 +22,10 @@ pub enum Answer {
         outcome: Outcome,
     },
     /// A workload, and what the check says of its statements.
-    Checked { workload: Workload, checks: Checks },
+    Checked {
+        workload: Workload,
+        checks: Checks,
+    },
     /// The text is no workload.
     Refused(WorkloadRefusal),
     /// The source gave more than [`crate::MOST_BYTES`] bytes.

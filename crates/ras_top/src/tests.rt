@@ -58,7 +58,12 @@ fn calls_answer_statuses_and_texts(rt: HostRuntime) -> Result<(), Fail> {
         ("run --workers 2 --schedule 1x3", WORKLOAD, 0, REPORT),
         ("check", WORKLOAD, 0, CHECKS),
         ("check", "", 1, "refused heading line 1\n"),
-        ("run --schedule 1", "#rasq workload 1\n", 1, "refused no end\n"),
+        (
+            "run --schedule 1",
+            "#rasq workload 1\n",
+            1,
+            "refused no end\n",
+        ),
         ("run --schedule 1y2", WORKLOAD, 2, "refused schedule at 1\n"),
         ("run", WORKLOAD, 2, "refused words\n"),
     ] {
