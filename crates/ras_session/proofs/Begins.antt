@@ -6,7 +6,6 @@ use Rattle.std.proofs.lemmas.Option.{slice_get-map}
 use Rattle.ras_domain.specs.declared.lock.LockName.{LockName}
 use Rattle.ras_syntax.specs.declared.statement.Statement.{Statement}
 use Rattle.ras_syntax.specs.declared.types.Script.{Script}
-use Rattle.ras_store.specs.Databases.{rewrites_of}
 use Rattle.ras_store.specs.declared.workload.Workload.{Workload}
 use Rattle.ras_course.specs.declared.course.Course.{Course}
 use Rattle.ras_walk.specs.declared.place.Place.TheVariants.{Free}
@@ -18,11 +17,10 @@ use Rattle.ras_store.specs.declared.change.Change.{Change}
 use Rattle.ras_walk.specs.Places.{session_place_of}
 use Rattle.ras_work.specs.Works.{IsOwnSeen, work_changes, work_kept}
 use Rattle.ras_work.specs.declared.work.Work.{Work}
-use Rattle.spec_histories.specs.History.{History, Programs, committed_database, nth, own_database}
+use Rattle.spec_histories.specs.History.{History, Programs, nth, own_database}
 use Rattle.spec_histories.specs.Legal.{IsLegal}
 use Rattle.spec_histories.specs.Serializable.{ArePrograms, HasRoom}
-use Rattle.spec_views.specs.Work.{RewritesTo}
-use Rattle.spec_sessions.specs.Walk.{Line, Opened, ReadScript, ScriptItem, SessionPlace, data_statement, free, inside, is_at_rest, is_end, is_over, item_at, live_in, the_end}
+use Rattle.spec_sessions.specs.Walk.{Line, Opened, ReadScript, ScriptItem, SessionPlace, free, inside, is_at_rest, is_end, is_over, item_at, live_in, the_end}
 use Rattle.spec_sessions.specs.Walk.{Step as StepOf}
 use Rattle.law_walks.proofs.Due.{session_commits}
 use Rattle.law_walks.proofs.Goes.{session_starts}

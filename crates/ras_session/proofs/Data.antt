@@ -1,8 +1,7 @@
 -- What a session requests where a data statement of a transaction is gone on with.
-use Rattle.std.proofs.Common.{◌≡◌, ◌≢◌, ◌⊎◌, ⊎_elim, ℕ, zero, suc, ◌<◌, ◌≤◌, inl, inr, Bool, true, false, ◌||◌, List, [], ◌∷◌, ◌++◌, Option, Some, None, Result, Ok, refl, sym, ap, ◌∙◌, subst, arith}
-use Rattle.std.specs.Prelude.{IfSome, IsTrue}
+use Rattle.std.proofs.Common.{◌≡◌, ◌≢◌, ◌⊎◌, ⊎_elim, ℕ, zero, suc, ◌<◌, ◌≤◌, inl, inr, Bool, true, false, ◌||◌, List, [], ◌∷◌, ◌++◌, Option, Some, None, Ok, refl, sym, ap, ◌∙◌, subst, arith}
+use Rattle.std.specs.Prelude.{IsTrue}
 use Rattle.std.specs.Option.{option_map}
-use Rattle.std.specs.List.{list_any}
 use Rattle.std.proofs.lemmas.Bool.{cases_Bool, cases_eq}
 use Rattle.std.proofs.lemmas.List.Folds.{list_any-append}
 use Rattle.ras_domain.specs.declared.lock.LockName.{LockName}
@@ -13,9 +12,8 @@ use Rattle.ras_syntax.specs.declared.statement.Statement.{Statement}
 use Rattle.ras_syntax.specs.declared.statement.StatementForm.{StatementForm}
 use Rattle.ras_syntax.specs.declared.statement.StatementForm.TheVariants as forms
 use Rattle.ras_syntax.specs.declared.types.SetType.{SetType}
-use Rattle.ras_syntax.specs.declared.typed.Checked.{Checked}
 use Rattle.ras_store.specs.Databases.{holding_kept, holdings_of, rewrites_of}
-use Rattle.ras_store.specs.Kept.{Kept, all_changed_as, changed_as, changed_by_all}
+use Rattle.ras_store.specs.Kept.{Kept, all_changed_as, changed_as}
 use Rattle.ras_store.specs.declared.change.Change.{Change}
 use Rattle.ras_store.specs.declared.workload.Workload.{Workload}
 use Rattle.ras_store.specs.declared.write.Computed.{Computed}
@@ -28,24 +26,22 @@ use Rattle.ras_walk.specs.Places.{session_place_of}
 use Rattle.ras_work.specs.Works.{IsApplied, IsChangedWork, IsOwnSeen, work_changes, work_kept}
 use Rattle.ras_work.specs.declared.work.Work.{Work}
 use Rattle.spec_expressions.specs.Database.{Database}
-use Rattle.spec_histories.specs.History.{History, Programs, answered_statements, committed_database, events_of, has_phase, is_data, nth, own_database, program_needs}
-use Rattle.spec_histories.specs.Legal.{IsDueList, IsGoingOn, IsLegal, MayFollow}
+use Rattle.spec_histories.specs.History.{History, Programs, answered_statements, committed_database, events_of, has_phase, is_data, own_database, program_needs}
+use Rattle.spec_histories.specs.Legal.{IsGoingOn, IsLegal}
 use Rattle.spec_histories.specs.Serializable.{ArePrograms, HasRoom}
 use Rattle.spec_shown.specs.Shown.{IsPartOf}
 use Rattle.spec_statements.specs.Locks.{Lock}
 use Rattle.spec_statements.specs.Machine.{effect_of, needs_of, reply_of}
-use Rattle.spec_statements.specs.ReachLaw.{AreNamedIn, IsSetting, Names}
+use Rattle.spec_statements.specs.ReachLaw.{AreNamedIn, Names}
 use Rattle.spec_statements.specs.Reply.{done, reply_of_answer}
 use Rattle.spec_views.specs.Holdings.{Holding, Holdings, IsSeenBy, holding_at, lists_before}
 use Rattle.spec_views.specs.Sessions.{IsWorkOf}
-use Rattle.spec_views.specs.Work.{AllStandFor, IsWorkOver, RewritesTo, TakenPiece, taken_locks}
-use Rattle.spec_views.specs.Work.{Work as WorkSeen}
-use Rattle.spec_sessions.specs.Walk.{ReadScript, SessionPlace, data_statement, ending, free, inside, is_success, item_at, item_of_form, leaving, live_in, lost, own}
+use Rattle.spec_views.specs.Work.{IsWorkOver, RewritesTo, TakenPiece, taken_locks}
+use Rattle.spec_sessions.specs.Walk.{ReadScript, SessionPlace, data_statement, ending, free, inside, is_success, item_of_form, leaving, live_in, lost, own}
 use Rattle.spec_sessions.specs.Walk.{Step as StepOf}
-use Rattle.law_histories.proofs.Legal.{AreGood, legal_good}
+use Rattle.law_histories.proofs.Legal.{legal_good}
 use Rattle.law_views.proofs.Events.{work_answered, work_answered_only}
 use Rattle.law_views.proofs.Seen.{earlier_listed, listed_before}
-use Rattle.law_views.proofs.Sessions.{work_rewrites}
 use Rattle.law_views.proofs.Standing.{stands-fewer}
 use Rattle.law_walks.specs.Session.{IsSessionOf, IsUnderWay, SessionValue, asking_in}
 use Rattle.law_walks.proofs.Due.{session_answers, session_asked, session_asks, session_goes_on, session_passes, session_sees, session_setting}
@@ -58,10 +54,9 @@ use Rattle.law_work.proofs.WrittenNames.{unwritten-stays, written-same}
 use Rattle.ras_core.specs.States.{AreProgramsOf, FIRST_IDENTIFIERS}
 use Rattle.ras_session.specs.declared.request.Request.{Request}
 use Rattle.ras_session.specs.declared.session.Session.{Session}
-use Rattle.ras_session.specs.Prepared.{IsAskPrepared, IsFinishPrepared, item_read}
+use Rattle.ras_session.specs.Prepared.{IsAskPrepared, IsFinishPrepared}
 use Rattle.ras_session.specs.Steps.{IsCourseOn, IsWrittenOut}
-use Rattle.ras_session.specs.Tied.{IsHoldingOwn, IsNextStatement, IsTied, IsWalking, script_in, session_with, work_seen}
-use Rattle.ras_session.proofs.Begins.{read_some}
+use Rattle.ras_session.specs.Tied.{IsHoldingOwn, IsNextStatement, IsTied, session_with, work_seen}
 
 -- ---- what comes next is a data statement
 

@@ -1,5 +1,5 @@
 -- A request is prepared, by the session's place and what comes next.
-use Rattle.std.proofs.Common.{◌≡◌, ◌≢◌, ℕ, Bool, true, false, List, [], ◌∷◌, Option, Some, None, refl, sym, ap, ◌∙◌, subst}
+use Rattle.std.proofs.Common.{◌≡◌, ◌≢◌, ℕ, Bool, false, List, ◌∷◌, Option, Some, None, refl, sym, ap, ◌∙◌, subst}
 use Rattle.ras_syntax.specs.declared.answer.Answer.{Answer}
 use Rattle.ras_syntax.specs.declared.statement.Statement.{Statement}
 use Rattle.ras_syntax.specs.declared.statement.Word.{Word as WordOf}
@@ -10,11 +10,11 @@ use Rattle.ras_store.specs.declared.write.Computed.{Computed}
 use Rattle.ras_course.specs.declared.course.Coming.TheVariants.{Asks, Answers, Writes}
 use Rattle.ras_walk.specs.Places.{item_seen, session_place_of}
 use Rattle.ras_walk.specs.declared.place.Item.{Item}
-use Rattle.ras_walk.specs.declared.place.Item.TheVariants.{End, Fault, Word, Data}
+use Rattle.ras_walk.specs.declared.place.Item.TheVariants.{End, Word, Data}
 use Rattle.spec_histories.specs.History.{History, Programs}
 use Rattle.spec_statements.specs.Locks.{Lock}
 use Rattle.spec_statements.specs.Reply.{reply_of_answer}
-use Rattle.spec_sessions.specs.Walk.{Closed, Opened, ReadScript, ScriptItem, by_success, data_statement, ending, free, inside, is_due_commit, is_success, item_at, item_of_form, leaving, live_in, own, quiet, session_word, the_end}
+use Rattle.spec_sessions.specs.Walk.{Closed, Opened, ReadScript, by_success, data_statement, ending, free, inside, is_due_commit, is_success, item_at, item_of_form, leaving, quiet, session_word, the_end}
 use Rattle.spec_sessions.specs.Walk.{Step as StepOf}
 use Rattle.ras_core.specs.States.{FIRST_IDENTIFIERS}
 use Rattle.law_walks.specs.Session.{asking_in}
@@ -24,7 +24,7 @@ use Rattle.ras_session.specs.declared.session.Session.{Session}
 use Rattle.ras_session.specs.Prepared.{IsAbortAt, IsAbortWord, IsPreparedFor, IsPreparedRequest, item_read}
 use Rattle.ras_session.specs.Steps.{IsCourseOn, IsKeptOf, IsNextRead, IsPreparedIn, IsTakenOut, IsWrittenOut}
 use Rattle.ras_session.specs.Tied.{IsNextStatement, IsTied, script_in}
-use Rattle.ras_session.proofs.Begins.{abort_inside, abort_there, begin_there, commit_there, over_there, read_some}
+use Rattle.ras_session.proofs.Begins.{abort_inside, abort_there, begin_there, commit_there, over_there}
 use Rattle.ras_session.proofs.Data.{answer_there, ask_there, write_there}
 use Rattle.ras_session.proofs.Ties.{prepared_behind}
 

@@ -1,12 +1,10 @@
 -- What is prepared may be served.
-use Rattle.std.proofs.Common.{◌≡◌, ℕ, ◌≤◌, List, [], map, length, Option, Some, None, Result, Ok, refl, sym, ap, ◌∙◌, subst, arith}
-use Rattle.std.specs.Prelude.{IsTrue}
+use Rattle.std.proofs.Common.{◌≡◌, ℕ, ◌≤◌, List, [], map, Option, Some, None, Result, Ok, refl, sym, ap, subst, arith}
 use Rattle.std.proofs.lemmas.List.{length-map}
 use Rattle.ras_syntax.specs.declared.faults.SyntaxFault.{SyntaxFault}
 use Rattle.ras_syntax.specs.declared.statement.Statement.{Statement}
 use Rattle.ras_syntax.specs.declared.types.Script.{Script}
 use Rattle.ras_store.specs.declared.workload.Workload.{Workload}
-use Rattle.ras_walk.specs.Places.{session_place_of}
 use Rattle.spec_histories.specs.History.{History, Programs, nth}
 use Rattle.law_grammar.specs.VerdictOf.{verdict_of}
 use Rattle.law_views.proofs.Room.{nth-within}

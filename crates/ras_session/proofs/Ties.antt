@@ -1,7 +1,6 @@
 -- A session that goes on stands in the history still.
-use Rattle.std.proofs.Common.{◌≡◌, ◌≢◌, ℕ, ◌≤◌, inl, inr, true, false, List, [], ◌∷◌, ◌++◌, map, Option, Some, None, Result, Ok, Err, refl, sym, ap, ◌∙◌, subst, arith}
-use Rattle.std.specs.Prelude.{IfOk, IfSome, IsTrue, OnOk}
-use Rattle.ras_domain.specs.declared.lock.LockName.{LockName}
+use Rattle.std.proofs.Common.{◌≡◌, ℕ, inl, inr, false, List, ◌∷◌, ◌++◌, Option, Some, None, Result, Ok, Err, sym, ap, ◌∙◌, subst}
+use Rattle.std.specs.Prelude.{IfOk, OnOk}
 use Rattle.ras_syntax.specs.declared.statement.Statement.{Statement}
 use Rattle.ras_syntax.specs.declared.types.SetType.{SetType}
 use Rattle.ras_store.specs.declared.workload.Workload.{Workload}
@@ -11,12 +10,11 @@ use Rattle.ras_course.proofs.Known.{known_at_first}
 use Rattle.ras_walk.specs.Places.{after_of, item_seen, session_place_of, step_seen}
 use Rattle.ras_walk.specs.declared.place.Item.{Item}
 use Rattle.ras_walk.specs.declared.place.Step.{Step}
-use Rattle.ras_work.specs.declared.work.Work.{Work}
 use Rattle.spec_expressions.specs.Database.{Database}
 use Rattle.spec_histories.specs.History.{History, Programs, own_database}
 use Rattle.spec_views.specs.Work.{Work as WorkSeen}
-use Rattle.spec_sessions.specs.Outcomes.{IsWalkOf, events_in, session_events}
-use Rattle.spec_sessions.specs.Walk.{Line, LineReply, ReadScript, State, Walked, after_quiet, item_at, line_for, quiet, step_from, walk}
+use Rattle.spec_sessions.specs.Outcomes.{IsWalkOf}
+use Rattle.spec_sessions.specs.Walk.{ReadScript, Walked, after_quiet, item_at, line_for, quiet, step_from}
 use Rattle.spec_sessions.specs.Walk.{Step as StepOf}
 use Rattle.law_walks.specs.Session.{IsSessionOf, SessionValue, session_after}
 use Rattle.law_walks.proofs.Goes.{session_tells, walks_on}
@@ -24,7 +22,7 @@ use Rattle.ras_session.specs.declared.request.Request.{Request}
 use Rattle.ras_session.specs.declared.session.Session.{Session}
 use Rattle.ras_session.specs.Prepared.{IsPreparedFor, IsPreparedRequest}
 use Rattle.ras_session.specs.Steps.{IsAdvanced, IsKeptOf, IsNextRead}
-use Rattle.ras_session.specs.Tied.{IsHoldingOwn, IsNextStatement, IsTied, IsWalking, script_in, session_with, walked_by, work_seen}
+use Rattle.ras_session.specs.Tied.{IsHoldingOwn, IsNextStatement, IsTied, script_in, session_with, walked_by, work_seen}
 
 -- ---- what was read
 

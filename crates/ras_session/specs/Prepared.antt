@@ -1,5 +1,5 @@
 -- What holds between a request and its reply, and what comes of the reply.
-use Rattle.std.specs.Prelude.{◌≡◌, ℕ, suc, Bool as Truth, false, List, [], ◌∷◌, Option, Some, None, IsTrue}
+use Rattle.std.specs.Prelude.{◌≡◌, ℕ, suc, false, List, [], ◌∷◌, Option, Some, None, IsTrue}
 use Rattle.ras_store.specs.Databases.{rewrites_of}
 use Rattle.ras_store.specs.declared.change.Change.{Change}
 use Rattle.ras_store.specs.declared.workload.Workload.{Workload}
@@ -18,7 +18,7 @@ use Rattle.spec_statements.specs.Reply.{reply_of_answer}
 use Rattle.spec_views.specs.Sessions.{IsWorkOf}
 use Rattle.spec_views.specs.Work.{RewritesTo, TakenPiece}
 use Rattle.spec_views.specs.Work.{Work as WorkSeen}
-use Rattle.spec_sessions.specs.Walk.{ReadScript, ScriptItem, SessionPlace, Step, by_success, data_statement, ending, free, inside, is_due_commit, is_over, is_success, item_at, item_of_form, leaving, live_in, lost, made, own, quiet, session_word, the_end}
+use Rattle.spec_sessions.specs.Walk.{ReadScript, ScriptItem, SessionPlace, Step, by_success, ending, free, inside, is_due_commit, is_over, is_success, item_at, item_of_form, live_in, made, own, quiet, session_word, the_end}
 use Rattle.law_walks.specs.Session.{IsUnderWay}
 use Rattle.ras_core.specs.States.{AreProgramsOf, FIRST_IDENTIFIERS}
 use Rattle.ras_session.specs.declared.request.Request.{Request}

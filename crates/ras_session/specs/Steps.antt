@@ -1,5 +1,5 @@
 -- What the parts of a request's preparation do to a session.
-use Rattle.std.specs.Prelude.{◌≡◌, ◌≢◌, ◌⊎◌, ℕ, suc, Bool as Truth, true, false, List, [], ◌∷◌, ◌++◌, Option, Some, None, IsTrue}
+use Rattle.std.specs.Prelude.{◌≡◌, ◌≢◌, ◌⊎◌, ℕ, true, List, [], ◌∷◌, ◌++◌, Option, Some, None}
 use Rattle.ras_domain.specs.declared.lock.LockName.{LockName}
 use Rattle.ras_outcome.specs.declared.answer.SessionAnswer.{SessionAnswer}
 use Rattle.ras_outcome.specs.Replies.{line_reply_of}
@@ -16,23 +16,18 @@ use Rattle.ras_course.specs.Courses.{ComesOf, IsComeTo}
 use Rattle.ras_course.specs.declared.course.Coming.{Coming}
 use Rattle.ras_walk.specs.Places.{item_seen, session_place_of, step_seen}
 use Rattle.ras_walk.specs.declared.place.Item.{Item}
-use Rattle.ras_walk.specs.declared.place.Item.TheVariants.{End, Fault, Word, Data}
+use Rattle.ras_walk.specs.declared.place.Item.TheVariants.{Fault}
 use Rattle.ras_walk.specs.declared.place.Place.{Place}
 use Rattle.ras_walk.specs.declared.place.Step.{Step}
 use Rattle.spec_expressions.specs.Database.{Database}
-use Rattle.spec_histories.specs.History.{History, Programs}
-use Rattle.spec_histories.specs.Legal.{IsLegal}
-use Rattle.spec_histories.specs.Serializable.{HasRoom}
 use Rattle.spec_views.specs.Holdings.{IsSeenBy}
-use Rattle.spec_sessions.specs.Walk.{Line, ReadScript, data_statement, first_live, is_end, item_at, line_for, live_in, out_of_memory}
-use Rattle.spec_sessions.specs.Walk.{Step as StepOf}
-use Rattle.ras_core.specs.States.{AreProgramsOf, FIRST_IDENTIFIERS}
+use Rattle.spec_sessions.specs.Walk.{ReadScript, data_statement, first_live, item_at, line_for, live_in, out_of_memory}
 use Rattle.law_walks.specs.Session.{asking_in}
 use Rattle.ras_session.specs.declared.request.Request.{Request}
 use Rattle.ras_session.specs.declared.request.Request.TheVariants.{Finish}
 use Rattle.ras_session.specs.declared.session.Session.{Session}
 use Rattle.ras_session.specs.Prepared.{IsPreparedFor, item_read}
-use Rattle.ras_session.specs.Tied.{IsNextStatement, IsTied, TellNoWant, script_in, walked_by}
+use Rattle.ras_session.specs.Tied.{IsNextStatement, TellNoWant, script_in, walked_by}
 
 -- ---- what comes next
 

@@ -1,5 +1,5 @@
 -- A session's fields as the definitions see them, and how the session stands in a history that all sessions write.
-use Rattle.std.specs.Prelude.{◌≡◌, ◌≢◌, ◌⊎◌, ℕ, List, [], Option, Some, None, Result, Ok, IfSome, IsTrue}
+use Rattle.std.specs.Prelude.{◌≡◌, ◌≢◌, ◌⊎◌, ℕ, List, [], Option, Some, None, Ok, IfSome, IsTrue}
 use Rattle.std.specs.List.{AllByRecursion}
 use Rattle.ras_domain.specs.declared.lock.LockName.{LockName}
 use Rattle.ras_syntax.specs.declared.statement.Statement.{Statement}
