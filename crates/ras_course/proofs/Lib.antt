@@ -1,0 +1,4 @@
+mod Ends
+pub mod Going
+pub mod Known
+mod Replies

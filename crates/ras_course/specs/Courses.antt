@@ -1,9 +1,10 @@
 -- The way of one statement through its phases: what is known of it before a phase, and what comes of going on.
-use Rattle.std.specs.Prelude.{◌≡◌, ◌≢◌, ℕ, suc, ◌<◌, ◌≤◌, false, List, [], Option, Some, None, Ok}
+use Rattle.std.specs.Prelude.{◌≡◌, ◌≢◌, ℕ, suc, ◌<◌, ◌≤◌, false, List, [], Option, Some, None, Ok, Err}
 use Rattle.law_work.specs.Writes.{writes_in, writings_of}
 use Rattle.ras_course.specs.declared.course.Coming.{Coming}
 use Rattle.ras_course.specs.declared.course.Coming.TheVariants as comings
 use Rattle.ras_course.specs.declared.course.Course.{Course}
+use Rattle.ras_eval.specs.Seen.{too_many_locks}
 use Rattle.ras_store.specs.declared.write.Computed.{Computed}
 use Rattle.ras_syntax.specs.declared.answer.Answer.{Answer}
 use Rattle.ras_syntax.specs.declared.statement.Statement.{Statement}
@@ -24,21 +25,26 @@ use Rattle.spec_views.specs.Writings.{written_by}
 -- the check is the statement's over a database; none is needed before the first phase was seen
 abbrev pub HasCheck : List SetType → Statement → ℕ → Option Checked → Database → Type 0
 HasCheck types statement next None database = next ≤ 2
-HasCheck types statement next (Some checked) database =
-    (2 ≤ next) × (is_too_long (first_list statement) ≡ false) × (checked_over types statement database ≡ Ok checked)
+HasCheck types statement next (Some checked) database = (2 ≤ next) × (checked_over types statement database ≡ Ok checked)
 
--- the rows are those that pass; none are needed before the first three phases were seen
-abbrev pub HasRows : ℕ → Option Checked → Option (List (ℕ × List ℕ)) → Database → Type 0
-HasRows next checked None database = next ≤ 4
-HasRows next None (Some rows) database = ⊥
-HasRows next (Some checked) (Some rows) database = (4 ≤ next) × (passing_by (statement_tree_of checked) database ≡ Ok rows)
+-- the rows are those that pass; none are needed before the first three phases were seen. No list of the earlier phases is too
+-- long: it would have been the answer
+abbrev pub HasRows : List SetType → Statement → ℕ → Option Checked → Option (List (ℕ × List ℕ)) → Database → Type 0
+HasRows types statement next None None database = next ≤ 4
+HasRows types statement next None (Some rows) database = ⊥
+HasRows types statement next (Some checked) None database =
+    (next ≤ 4) × (next ≡ 4 → passing_by (statement_tree_of checked) database ≢ Err (too_many_locks (statement_tree_of checked)))
+HasRows types statement next (Some checked) (Some rows) database =
+    (4 ≤ next) × (passing_by (statement_tree_of checked) database ≡ Ok rows)
+    × (next ≡ 5 → reply_of types statement database ≢ too_many_locks (statement_tree_of checked))
 
 -- what a course keeps is so over a database
 pub record IsKnownTo (types : List SetType) (statement : Statement) (next : ℕ) (checked : Option Checked) (rows : Option (List (ℕ × List ℕ))) (database : Database) : Type 0 where
   pub some : 1 ≤ next
   pub within : next ≤ 5
+  pub short : 2 ≤ next → is_too_long (first_list statement) ≡ false
   pub has_check : HasCheck types statement next checked database
-  pub has_rows : HasRows next checked rows database
+  pub has_rows : HasRows types statement next checked rows database
 
 abbrev pub IsKnown : List SetType → Statement → Course → Database → Type 0
 IsKnown types statement course database = IsKnownTo types statement course.next course.checked course.rows database

@@ -3,6 +3,7 @@
 #![tactic(auto)]
 
 mod course;
+mod errors;
 pub mod laws;
 
 pub use course::{Coming, Course};

@@ -1,0 +1,10 @@
+pub mod Begins
+pub mod Data
+pub mod Grants
+pub mod Others
+pub mod Places
+pub mod Replied
+pub mod Served
+pub mod Stepped
+pub mod Taken
+pub mod Ties

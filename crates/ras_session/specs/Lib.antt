@@ -1,1 +1,5 @@
+pub mod Prepared
+pub mod Replied
 pub mod Served
+pub mod Steps
+pub mod Tied

@@ -1,6 +1,6 @@
 pub mod Asked
 pub mod Bases
-pub mod Reads
+pub mod Finding
 pub mod Shorts
 pub mod Taken
 pub mod Texts

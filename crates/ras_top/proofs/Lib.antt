@@ -1,6 +1,3 @@
 mod Answered
-mod FirstText
-mod Join
-mod TrimText
-mod Trims
-mod Words
+mod Due
+mod Programs

@@ -1,53 +1,88 @@
--- What a call may answer: its status, the text that goes with it, and what must hold for it.
-use Rattle.std.specs.Prelude.{◌≡◌, ℕ, ◌<◌, ◌≤◌, List, [], ◌∷◌, length, codes, Option, IfSome}
-use Rattle.std.specs.Io.KnownBytes.{IsAtEnd}
-use Rattle.ras_edges.specs.Faults.{Rose}
-use Rattle.ras_top.specs.declared.TheConstants.{MOST_BYTES}
+-- The answers of the code, and what they say.
+use Rattle.std.specs.Prelude.{◌≡◌, ℕ, Bool, true, false, List, Option, Some, None, Ok, codes}
+use Rattle.std.specs.Arc.{arc_value}
+use Rattle.ras_commands.specs.Texts.{checks_text, refusal_text}
+use Rattle.ras_report.specs.Once.{AreAnsweredOnce}
+use Rattle.ras_settings.specs.declared.settings.WordsFault.{WordsFault}
+use Rattle.ras_settings.specs.declared.settings.WordsFault.TheVariants.{Memory}
+use Rattle.ras_setup.specs.Found.{IsWorkload}
+use Rattle.ras_store.specs.declared.workload.Workload.{Workload}
+use Rattle.spec_commands.specs.Commands.{whole_workload_of}
+use Rattle.spec_grammar.specs.Tokens.{Text}
+use Rattle.spec_sessions.specs.Report.{report_text}
+use Rattle.spec_workloads.specs.Setup.{WorkloadFaultValue, WorkloadValue}
+use Rattle.ras_top.specs.Said.{IsDue, IsSaidBy, IsSaidOf, Said, status_of, text_of, words_refusal}
 use Rattle.ras_top.specs.declared.answer.Answer.{Answer}
-use Rattle.ras_top.specs.declared.answer.Answer.TheVariants.{Report, TooLong, NotBuilt, BadWords, ReadFailed, NoMemory}
-use Rattle.ras_top.specs.Workload.{IsTrim, IsFirstText, first_text}
-use Rattle.ras_top.specs.Report.{first_report}
+use Rattle.ras_top.specs.declared.answer.Answer.TheVariants.{Report, Checked, Refused, TooLong, BadWords, ReadFailed, NoMemory}
+use Rattle.ras_top.specs.declared.command.Command.{Command}
 
--- the words that are accepted so far
-abbrev pub AreRunWords : List (List ℕ) → Type 0
-AreRunWords words = words ≡ codes "run" ∷ codes "--schedule" ∷ codes "1" ∷ []
+abbrev pub answer_status : Answer → ℕ
+answer_status (Report workload outcome) = 0
+answer_status (Checked workload checks) = 0
+answer_status (Refused refusal) = 1
+answer_status TooLong = 1
+answer_status (BadWords fault) = 2
+answer_status ReadFailed = 3
+answer_status NoMemory = 5
 
-abbrev pub status_of : Answer → ℕ
-status_of (Report axes) = 0
-status_of TooLong = 1
-status_of NotBuilt = 1
-status_of BadWords = 2
-status_of ReadFailed = 3
-status_of NoMemory = 5
+abbrev pub answer_text : Answer → Text
+answer_text (Report workload outcome) = report_text (arc_value workload).scripts outcome
+answer_text (Checked workload checks) = checks_text workload.scripts checks.sessions
+answer_text (Refused refusal) = refusal_text refusal
+answer_text TooLong = codes "refused too long\n"
+answer_text (BadWords fault) = words_refusal fault
+answer_text ReadFailed = codes "refused read\n"
+answer_text NoMemory = codes "refused memory\n"
 
--- the status of a call whose text could not be written whole
-abbrev pub cut_short : ℕ
-cut_short = 4
+-- what the writing of its text wants
+abbrev pub CanBeWritten : Answer → Type 0
+CanBeWritten (Report workload outcome) = AreAnsweredOnce outcome.history
+CanBeWritten answer = Unit {0}
 
-abbrev pub text_of : Answer → List ℕ
-text_of (Report axes) = first_report axes
-text_of TooLong = codes "refused too long\n"
-text_of NotBuilt = codes "refused not built\n"
-text_of BadWords = codes "refused words\n"
-text_of ReadFailed = codes "refused read\n"
-text_of NoMemory = codes "refused memory\n"
+-- the answer says this
+pub record Says (answer : Answer) (said : Said) : Type 0 where
+  pub status : answer_status answer ≡ status_of said
+  pub text : answer_text answer ≡ text_of said
+  pub written : CanBeWritten answer
 
--- What must hold for each answer to a text that was read whole. Want of memory may come at any time
-abbrev pub IsTextAnswer : List ℕ → Answer → Type 0
-IsTextAnswer text (Report axes) = IsTrim axes × (text ≡ first_text axes)
-IsTextAnswer text NotBuilt = ¬ IsFirstText text
-IsTextAnswer text NoMemory = Unit {0}
-IsTextAnswer text _ = ⊥
+-- ---- what it may say
 
--- The words; the bytes that the source had left when the call began and when it ended, where it tells
--- them; its count of faults at both times.
-module _ (words : List (List ℕ)) (input rest : Option (List ℕ)) (faults_before faults_after : ℕ) where
-  -- what must hold for each answer. Want of memory may come at any time
-  abbrev pub IsDue : Answer → Type 0
-  IsDue (Report axes) = AreRunWords words × IsTrim axes × IfSome input (λ text. text ≡ first_text axes) × IsAtEnd rest
-  IsDue TooLong = AreRunWords words × IfSome input (λ text. MOST_BYTES < length text)
-  IsDue NotBuilt =
-      AreRunWords words × IfSome input (λ text. (length text ≤ MOST_BYTES) × (¬ IsFirstText text)) × IsAtEnd rest
-  IsDue BadWords = ¬ AreRunWords words
-  IsDue ReadFailed = AreRunWords words × Rose faults_before faults_after
-  IsDue NoMemory = Unit {0}
+-- of a text that was read whole
+pub record IsAnswerOf (command : Command) (text : Text) (answer : Answer) : Type 0 where
+  pub said : Said
+  pub due : IsSaidOf said command text
+  pub says : Says answer said
+
+module _ (input rest : Option Text) (faults_before faults_after : ℕ) where
+  -- of a text that is read
+  pub record IsAnswerBy (command : Command) (answer : Answer) : Type 0 where
+    pub said : Said
+    pub due : IsSaidBy input rest faults_before faults_after said command
+    pub says : Says answer said
+
+  -- of words
+  pub record IsAnswerDue (words : List Text) (answer : Answer) : Type 0 where
+    pub said : Said
+    pub due : IsDue input rest faults_before faults_after said words
+    pub says : Says answer said
+
+-- ---- workloads of texts
+
+-- it is the workload of some text
+pub record IsOfText (workload : Workload) : Type 0 where
+  pub text : Text
+  pub value : WorkloadValue
+  pub found : whole_workload_of text ≡ Ok value
+  pub is : IsWorkload value workload
+
+-- ---- faults
+
+-- to words that ask for no command, or for which memory was wanting
+abbrev pub answer_to : WordsFault → Answer
+answer_to Memory = NoMemory
+answer_to fault = BadWords fault
+
+-- memory was wanting, and there is no fault
+abbrev pub is_wanting : Option WorkloadFaultValue → Bool
+is_wanting None = true
+is_wanting (Some fault) = false

@@ -1,6 +1,5 @@
 pub mod Answer
 pub mod Call
+pub mod Commands
 pub mod ReadAll
-pub mod Report
-pub mod Texts
-pub mod Workload
+pub mod Said

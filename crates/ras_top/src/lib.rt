@@ -2,15 +2,13 @@
 #![tactic(auto)]
 
 mod answer;
+mod command;
 mod judge;
 mod read_all;
-mod report;
 mod run;
 #[cfg(test)]
 mod tests;
 mod texts;
-mod trimmed;
-mod workload;
 
 pub use run::{rasq_main, rasq_quiet, refuse_memory};
 

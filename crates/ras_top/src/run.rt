@@ -1,9 +1,10 @@
 //! The calls that the program makes.
-ghost use Rattle.std.specs.Prelude.{◌≡◌, ◌≢◌, map, string_bytes, IsSome, IfSome};
+ghost use Rattle.std.specs.Prelude.{◌≡◌, ◌≢◌, map, string_bytes, IsSome, IfSome, Err};
 ghost use Rattle.ras_edges.specs.Sink.{Wrote, Stopped, IsFlushed};
-ghost use Rattle.ras_top.specs.Answer.{AreRunWords, cut_short, status_of, text_of};
-ghost use Rattle.ras_top.specs.declared.answer.Answer.TheVariants.{NoMemory};
+ghost use Rattle.ras_settings.specs.declared.settings.WordsFault.{WordsFault};
 ghost use Rattle.ras_top.specs.Call.{call_of, IsAnswered};
+ghost use Rattle.ras_top.specs.Commands.{AskFor};
+ghost use Rattle.ras_top.specs.Said.{cut_short, no_memory, status_of, text_of};
 
 use crate::answer::{Answer, send};
 use crate::judge::judge;
@@ -18,10 +19,11 @@ const CUT_SHORT: u8 = 4;
 /// One run of the program that waits for nobody: it reads the source, writes one text to the sink
 /// and flushes it, and answers the status.
 ///
-/// - 0: the report of the source's workload.
-/// - 1: `refused too long`, the source has more than [`crate::MOST_BYTES`] bytes, or `refused not
-///   built`, they are no workload of a form that is built.
-/// - 2: `refused words`, the words aren't accepted; nothing was read.
+/// - 0: what the words ask for was done, and this is its text: the report of the source's workload,
+///   run by the schedule; or the check of its statements.
+/// - 1: one line that says why the source's bytes are no workload, or `refused too long`, they are more
+///   than [`crate::MOST_BYTES`].
+/// - 2: one line that says what is wrong with the words; nothing was read.
 /// - 3: `refused read`, a read failed.
 /// - 4: a write or the flush failed; the sink took a front of the text.
 /// - 5: `refused memory`, want of memory, which may come at any time before the writing starts.
@@ -29,7 +31,7 @@ const CUT_SHORT: u8 = 4;
 /// The words don't hold the program's name. None would mean that they want threads; it isn't
 /// answered so far.
 pub fn rasq_quiet<R: Threads + Sync, S: Source, K: Sink>(
-    _rt: &R,
+    rt: &R,
     alloc: Global,
     words: &[String],
     source: &mut S,
@@ -38,9 +40,9 @@ pub fn rasq_quiet<R: Threads + Sync, S: Source, K: Sink>(
     ensures always { IsSome result }
     ensures answered { IfSome result (IsAnswered (call_of S.left S.faults K.taken K.flushed K.faults
         (map string_bytes words.now) source.old source.new sink.old sink.new)) }
-    ensures unread { ¬ AreRunWords (map string_bytes words.now) → source.new ≡ source.old }
+    ensures unread { (fault : WordsFault) → AskFor (map string_bytes words.now) (Err fault) → source.new ≡ source.old }
 {
-    let answer = judge(alloc, words, source);
+    let answer = judge(rt, alloc, words, source);
     match send(sink, &answer) {
         Ok(()) => Some(answer.status()),
         Err(_) => Some(CUT_SHORT),
@@ -51,9 +53,9 @@ pub fn rasq_quiet<R: Threads + Sync, S: Source, K: Sink>(
 /// refusal to the sink, flushes it, and answers its status, 5, or 4 where a write or the flush
 /// failed.
 pub fn refuse_memory<K: Sink>(sink: &mut K) -> u8
-    ensures whole { result ≢ cut_short → (result ≡ status_of NoMemory)
-        × Wrote K.taken K.faults sink.old sink.new (text_of NoMemory) × IsFlushed (K.taken sink.new) (K.flushed sink.new) }
-    ensures cut { result ≡ cut_short → Stopped K.taken K.faults sink.old sink.new (text_of NoMemory) }
+    ensures whole { result ≢ cut_short → (result ≡ status_of no_memory)
+        × Wrote K.taken K.faults sink.old sink.new (text_of no_memory) × IsFlushed (K.taken sink.new) (K.flushed sink.new) }
+    ensures cut { result ≡ cut_short → Stopped K.taken K.faults sink.old sink.new (text_of no_memory) }
 {
     let answer = Answer::NoMemory;
     match send(sink, &answer) {
@@ -74,7 +76,7 @@ pub fn rasq_main<R: Threads + Sync + Wait, S: Source, K: Sink, G: Gate>(
 ) -> u8
     ensures answered { IsAnswered (call_of S.left S.faults K.taken K.flushed K.faults
         (map string_bytes words.now) source.old source.new sink.old sink.new) result }
-    ensures unread { ¬ AreRunWords (map string_bytes words.now) → source.new ≡ source.old }
+    ensures unread { (fault : WordsFault) → AskFor (map string_bytes words.now) (Err fault) → source.new ≡ source.old }
 {
     match rasq_quiet(rt, alloc, words, source, sink) {
         Some(status) => status,

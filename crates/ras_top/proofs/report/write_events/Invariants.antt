@@ -1,8 +1,0 @@
-use Rattle.std.proofs.Common.{take}
-use Rattle.std.specs.Prelude.{flat_map}
-use Rattle.ras_edges.specs.Sink.{Wrote}
-use Rattle.ras_top.specs.Report.{event_text}
-use Rattle.ras_top.proofs.report.write_events.Given as goal
-
-abbrev pub invariant-loop-event : goal.invariant-loop-event
-invariant-loop-event g l = Wrote g.K.Sink.taken g.K.Sink.faults l.initial.sink l.sink (flat_map event_text (take l.event-index l.events))
