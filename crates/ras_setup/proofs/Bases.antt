@@ -19,6 +19,7 @@ use Rattle.ras_store.specs.Databases.{Keeps, holding_kept, holdings_of, rewrites
 use Rattle.ras_store.specs.Kept.{Kept, changed_by_all}
 use Rattle.ras_store.specs.declared.change.Change.{Change}
 use Rattle.ras_store.proofs.KeptDatabases.{changes-rewrite}
+use Rattle.ras_syntax.specs.declared.faults.SyntaxFault.{SyntaxFault}
 use Rattle.ras_syntax.specs.declared.limits.TheConstants.{MAX_IDENTIFIER}
 use Rattle.ras_syntax.specs.declared.statement.Statement.{Statement}
 use Rattle.ras_syntax.specs.declared.statement.StatementForm.{StatementForm}
@@ -54,6 +55,21 @@ word-stops types k statement (forms.Delete source cond) database is = absurd cc
 word-stops types k statement (forms.Update source set axes target body cond) database is = absurd cc
 word-stops types k statement (forms.Create name of) database is = absurd cc
 word-stops types k statement (forms.Drop name) database is = absurd cc
+
+-- a text that can't be run has its fault
+pub word-wanted : (types : List SetType) (k : ℕ) (text : Text) (statement : Statement) (database : Database) (fault : SetupFault)
+    → verdict_of text ≡ Ok statement → is_word statement.form ≡ true → Some SetupFault.a_word ≡ Some fault
+    → after_verdict types k (verdict_of text) database ≡ Err (k, fault)
+word-wanted types k text statement database fault verdict word seen =
+    let same : SetupFault.a_word ≡ fault = cc in
+    ap (λ verdict. after_verdict types k verdict database) verdict ∙ word-stops types k statement statement.form database word
+    ∙ ap (λ f. let r : SetupOutcome = Err (k, f) in r) same
+
+pub unread-wanted : (types : List SetType) (k : ℕ) (text : Text) (found : SyntaxFault) (database : Database) (fault : SetupFault)
+    → verdict_of text ≡ Err found → Some (SetupFault.unread found) ≡ Some fault → after_verdict types k (verdict_of text) database ≡ Err (k, fault)
+unread-wanted types k text found database fault verdict seen =
+    let same : SetupFault.unread found ≡ fault = cc in
+    ap (λ verdict. after_verdict types k verdict database) verdict ∙ ap (λ f. let r : SetupOutcome = Err (k, f) in r) same
 
 module _ (types : List SetType) (text : Text) (statement : Statement) (read : IsStatementOf text statement) (bound : ℕ) (database : Database) where
   text-runs : (k : ℕ) → after_verdict types k (verdict_of text) database ≡ if_done k (reply_of types statement database) (effect_of types statement database)
