@@ -1,7 +1,8 @@
-use Rattle.std.proofs.Common.{Ok, Err, sym, ◌∙◌}
+use Rattle.std.proofs.Common.{◌≡◌, Ok, Some, subst, sym, ◌∙◌}
 use Rattle.law_grammar.proofs.EachVerdict.{is_verdict_of}
 use Rattle.spec_grammar.proofs.Numbers.{numbers_of_statement}
-use Rattle.ras_setup.proofs.Bases.{unread-wanted, word-wanted}
+use Rattle.ras_setup.specs.Runs.{stop_seen}
+use Rattle.ras_setup.proofs.Bases.{told-wanted, word-wanted}
 use Rattle.ras_setup.proofs.statement.statement_of.Goals as goal
 
 pub returns-then-is_word : goal.returns-then-is_word
@@ -16,7 +17,7 @@ returns-else-is_word c = record {
   numbers_fit = numbers_of_statement c.args.text.now c.in-Ok.statement c.in-Ok.ensures.tree;
 }
 
-pub returns-in-Err-Fault : goal.returns-in-Err-Fault
-returns-in-Err-Fault c = λ types database k fault seen.
-    unread-wanted types k c.args.text.now c.in-Err-Fault.fault database fault
-    (is_verdict_of c.args.text.now (Err c.in-Err-Fault.fault) c.in-Err-Fault.ensures.fault) seen
+pub returns-in-Err : goal.returns-in-Err
+returns-in-Err c = λ types database k fault seen.
+    told-wanted types k c.args.text.now c.in-Err.fault database fault c.in-Err.ensures.fault
+    (subst (λ stop. stop_seen stop ≡ Some fault) c.stop_of.ensures seen)
