@@ -10,8 +10,12 @@ use Rattle.law_grammar.specs.VerdictOf.{verdict_of}
 use Rattle.law_histories.proofs.Statements.{IsReady, setting_of}
 use Rattle.ras_domain.specs.declared.lock.LockName.{LockName}
 use Rattle.ras_domain.specs.declared.lock.LockName.TheVariants.{Collection, Domain, Tile}
+use Rattle.law_grammar.proofs.EachVerdict.{is_verdict_of}
+use Rattle.ras_parse.specs.Told.{IsToldFault}
+use Rattle.ras_parse.specs.declared.fault.ParseFault.{ParseFault}
+use Rattle.ras_parse.specs.declared.fault.ParseFault.TheVariants as parse_faults
 use Rattle.ras_setup.specs.Found.{setup_fault_seen}
-use Rattle.ras_setup.specs.Runs.{IsBase, IsChangedBy, IsRunTo, IsStatementOf, IsWantedFailure, IsWantedStop, is_word, refusal_of, stop_seen}
+use Rattle.ras_setup.specs.Runs.{IsBase, IsChangedBy, IsRunTo, IsStatementOf, IsWantedFailure, IsWantedStop, is_word, refusal_of, stop_of_parse, stop_seen}
 use Rattle.ras_setup.specs.declared.fault.Stop.{Stop}
 use Rattle.ras_setup.specs.declared.fault.Stop.TheVariants.{Fault, Memory}
 use Rattle.ras_setup.proofs.Texts.{goes-on, stops}
@@ -19,6 +23,7 @@ use Rattle.ras_store.specs.Databases.{Keeps, holding_kept, holdings_of, rewrites
 use Rattle.ras_store.specs.Kept.{Kept, changed_by_all}
 use Rattle.ras_store.specs.declared.change.Change.{Change}
 use Rattle.ras_store.proofs.KeptDatabases.{changes-rewrite}
+use Rattle.ras_syntax.specs.declared.faults.SyntaxFault.{SyntaxFault}
 use Rattle.ras_syntax.specs.declared.limits.TheConstants.{MAX_IDENTIFIER}
 use Rattle.ras_syntax.specs.declared.statement.Statement.{Statement}
 use Rattle.ras_syntax.specs.declared.statement.StatementForm.{StatementForm}
@@ -54,6 +59,27 @@ word-stops types k statement (forms.Delete source cond) database is = absurd cc
 word-stops types k statement (forms.Update source set axes target body cond) database is = absurd cc
 word-stops types k statement (forms.Create name of) database is = absurd cc
 word-stops types k statement (forms.Drop name) database is = absurd cc
+
+-- a text that can't be run has its fault
+pub word-wanted : (types : List SetType) (k : ℕ) (text : Text) (statement : Statement) (database : Database) (fault : SetupFault)
+    → verdict_of text ≡ Ok statement → is_word statement.form ≡ true → Some SetupFault.a_word ≡ Some fault
+    → after_verdict types k (verdict_of text) database ≡ Err (k, fault)
+word-wanted types k text statement database fault verdict word seen =
+    let same : SetupFault.a_word ≡ fault = cc in
+    ap (λ verdict. after_verdict types k verdict database) verdict ∙ word-stops types k statement statement.form database word
+    ∙ ap (λ f. let r : SetupOutcome = Err (k, f) in r) same
+
+unread-wanted : (types : List SetType) (k : ℕ) (text : Text) (found : SyntaxFault) (database : Database) (fault : SetupFault)
+    → verdict_of text ≡ Err found → Some (SetupFault.unread found) ≡ Some fault → after_verdict types k (verdict_of text) database ≡ Err (k, fault)
+unread-wanted types k text found database fault verdict seen =
+    let same : SetupFault.unread found ≡ fault = cc in
+    ap (λ verdict. after_verdict types k verdict database) verdict ∙ ap (λ f. let r : SetupOutcome = Err (k, f) in r) same
+
+pub told-wanted : (types : List SetType) (k : ℕ) (text : Text) (found : ParseFault) (database : Database) (fault : SetupFault) → IsToldFault text found
+    → stop_seen (stop_of_parse found) ≡ Some fault → after_verdict types k (verdict_of text) database ≡ Err (k, fault)
+told-wanted types k text (parse_faults.Fault found) database fault told seen =
+    unread-wanted types k text found database fault (is_verdict_of text (Err found) told) seen
+told-wanted types k text parse_faults.Memory database fault told seen = absurd cc
 
 module _ (types : List SetType) (text : Text) (statement : Statement) (read : IsStatementOf text statement) (bound : ℕ) (database : Database) where
   text-runs : (k : ℕ) → after_verdict types k (verdict_of text) database ≡ if_done k (reply_of types statement database) (effect_of types statement database)
@@ -116,9 +142,9 @@ so-far-begins types texts kept fit none = record {
 }
 
 module _ (types : List SetType) (texts : List Text) (ran : ℕ) (text : Text) (kept : LockName → Option Kept) (within : ran < length texts)
-    (there : get_or texts ran [] ≡ text) (so_far : IsSetUpSoFar types texts ran kept) where
+    (default : Text) (there : get_or texts ran default ≡ text) (so_far : IsSetUpSoFar types texts ran kept) where
   next-text : drop ran texts ≡ text ∷ drop (ran + 1) texts
-  next-text = drop_more texts ran [] within ∙ ap (λ t. t ∷ drop (ran + 1) texts) there
+  next-text = drop_more texts ran default within ∙ ap (λ t. t ∷ drop (ran + 1) texts) there
 
   rest-is : set_up types 1 texts [] ≡ set_up types (1 + ran) (text ∷ drop (ran + 1) texts) so_far.database
   rest-is = so_far.rest ∙ ap (λ ts. set_up types (1 + ran) ts so_far.database) next-text

@@ -1,5 +1,6 @@
 pub mod Asked
 pub mod Bases
+pub mod Behind
 pub mod Finding
 pub mod Shorts
 pub mod Taken

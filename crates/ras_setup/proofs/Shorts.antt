@@ -87,9 +87,9 @@ parts-short false (b ∷ bytes) = at (b == 59) (parts-short false bytes) (parts-
     at : (is : Bool) → AllByRecursion (IsShort (length bytes)) (parts_of false bytes)
         → AllByRecursion (IsShort (length bytes)) (parts_of (begins_with (codes "--") (b ∷ bytes)) bytes)
         → AllByRecursion (IsShort (length (b ∷ bytes))) (elim is [
-      | true ↦ [] ∷ parts_of false bytes
-      | false ↦ to_first b (parts_of (begins_with (codes "--") (b ∷ bytes)) bytes)
-    ])
+          | true ↦ [] ∷ parts_of false bytes
+          | false ↦ to_first b (parts_of (begins_with (codes "--") (b ∷ bytes)) bytes)
+        ])
     at true next other = (omega arith, more-short (length bytes) (parts_of false bytes) next)
     at false next other = first-short b (length bytes) (parts_of (begins_with (codes "--") (b ∷ bytes)) bytes) other
 

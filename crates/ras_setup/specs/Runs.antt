@@ -2,7 +2,10 @@
 use Rattle.std.specs.Prelude.{◌≡◌, ◌⊎◌, ℕ, ◌+◌, Bool, true, false, IsTrue, List, [], Option, Some, None, Result, Ok, Err}
 use Rattle.law_grammar.specs.VerdictOf.{verdict_of}
 use Rattle.ras_domain.specs.declared.lock.LockName.{LockName}
+use Rattle.ras_parse.specs.declared.fault.ParseFault.{ParseFault}
+use Rattle.ras_parse.specs.declared.fault.ParseFault.TheVariants as parse_faults
 use Rattle.ras_setup.specs.declared.fault.SetupFault.{SetupFault}
+use Rattle.ras_setup.specs.declared.fault.SetupFault.TheVariants.{Syntax}
 use Rattle.ras_setup.specs.declared.fault.Stop.{Stop}
 use Rattle.ras_setup.specs.declared.fault.Stop.TheVariants.{Fault, Memory}
 use Rattle.ras_setup.specs.declared.fault.WorkloadRefusal.{WorkloadRefusal}
@@ -38,6 +41,11 @@ use Rattle.spec_workloads.specs.Setup.{SetupOutcome, WorkloadFaultValue, Workloa
 abbrev pub stop_seen : Stop → Option spec.SetupFault
 stop_seen (Fault fault) = Some (setup_fault_seen fault)
 stop_seen Memory = None
+
+-- where a text wasn't read
+abbrev pub stop_of_parse : ParseFault → Stop
+stop_of_parse (parse_faults.Fault fault) = Fault (Syntax fault)
+stop_of_parse parse_faults.Memory = Memory
 
 -- where the statement of a number isn't run
 abbrev pub refusal_of : ℕ → Stop → WorkloadRefusal

@@ -5,6 +5,7 @@ mod base;
 mod changes;
 mod ended;
 mod fault;
+pub mod laws;
 mod read;
 mod statement;
 

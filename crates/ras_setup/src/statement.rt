@@ -1,6 +1,6 @@
 //! The statement that a text of a setup is.
 ghost use Rattle.std.specs.Prelude.{◌≡◌, ◌<◌, ◌^◌, length};
-ghost use Rattle.ras_setup.specs.Runs.{ReadsText, is_word};
+ghost use Rattle.ras_setup.specs.Runs.{ReadsText, is_word, stop_of_parse};
 
 use crate::fault::{SetupFault, Stop};
 use ras_parse::{ParseFault, parse_statement};
@@ -12,6 +12,16 @@ fn is_word(statement: &Statement) -> bool
     ensures { result ≡ is_word statement.now.form }
 {
     matches!(&statement.form, StatementForm::Word(_))
+}
+
+/// Why the statement of a text that wasn't read isn't run.
+fn stop_of(fault: ParseFault) -> Stop
+    ensures { result ≡ stop_of_parse fault }
+{
+    match fault {
+        ParseFault::Fault(fault) => Stop::Fault(SetupFault::Syntax(fault)),
+        ParseFault::Memory => Stop::Memory,
+    }
 }
 
 /// The statement that a text of fewer than 2^32 bytes is. A session word is none of a setup.
@@ -27,7 +37,6 @@ pub(crate) fn statement_of(alloc: Global, text: &[u8]) -> Result<Statement, Stop
             }
             Ok(statement)
         }
-        Err(ParseFault::Fault(fault)) => Err(Stop::Fault(SetupFault::Syntax(fault))),
-        Err(ParseFault::Memory) => Err(Stop::Memory),
+        Err(fault) => Err(stop_of(fault)),
     }
 }
