@@ -1,5 +1,5 @@
 -- A statement on its way: from one list that it asks for to the next, and to its end.
-use Rattle.std.proofs.Common.{◌≡◌, ◌⊎◌, inl, inr, ℕ, suc, ◌<◌, ◌≤◌, nat_lt, Bool, true, false, List, [], ◌∷◌, ◌++◌, Option, Some, None, Ok, Err, refl, sym, ap, subst, ◌∙◌, arith}
+use Rattle.std.proofs.Common.{◌≡◌, ◌⊎◌, inl, inr, ℕ, suc, ◌<◌, ◌≤◌, List, [], ◌++◌, Option, Some, None, Ok, Err, sym, ap, subst, ◌∙◌, arith}
 use Rattle.std.specs.Option.{option_map}
 use Rattle.law_views.proofs.Seen.{earlier_listed, listed_before}
 use Rattle.ras_course.specs.Courses.{IsAnswerOf, IsAskedFor, IsComeTo, IsWritten}
@@ -23,14 +23,14 @@ use Rattle.ras_work.specs.declared.work.Work.{Work}
 use Rattle.spec_expressions.specs.Database.{Database}
 use Rattle.spec_shown.specs.Shown.{IsPartOf}
 use Rattle.spec_statements.specs.Locks.{Lock}
-use Rattle.spec_statements.specs.Machine.{effect_of, needs_of, reply_of}
+use Rattle.spec_statements.specs.Machine.{effect_of, needs_of}
 use Rattle.spec_statements.specs.ReachLaw.{IsSetting, Names}
-use Rattle.spec_statements.specs.Reply.{Reply, done, reply_of_answer}
+use Rattle.spec_statements.specs.Reply.{reply_of_answer}
 use Rattle.law_work.specs.Writes.{writes_in, writings_of}
 use Rattle.spec_statements.specs.Statement.{statement_tree_of}
 use Rattle.spec_views.specs.Work.{RewritesTo}
 use Rattle.spec_views.specs.Writings.{written_by}
-use Rattle.spec_views.specs.Holdings.{Holdings, IsSeenBy, StandsFor, holding_at, lists_before}
+use Rattle.spec_views.specs.Holdings.{IsSeenBy, holding_at}
 use Rattle.spec_workloads.specs.Setup.{if_done}
 use Rattle.std.proofs.lemmas.Bool.{cases_lt}
 use Rattle.std.specs.Prelude.{Result}

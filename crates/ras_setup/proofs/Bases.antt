@@ -1,9 +1,8 @@
 -- The database that a setup has left so far: one statement more.
-use Rattle.std.proofs.Common.{◌≡◌, ℕ, suc, ◌+◌, ◌<◌, ◌≤◌, Bool, true, false, List, [], ◌∷◌, length, get_or, drop, Option, Some, None, Result, Ok, Err, refl, sym, ap, subst, ◌∙◌, arith}
+use Rattle.std.proofs.Common.{◌≡◌, ℕ, suc, ◌+◌, ◌<◌, ◌≤◌, true, false, List, [], ◌∷◌, length, get_or, drop, Option, Some, None, Ok, Err, refl, sym, ap, subst, ◌∙◌, arith}
 use Rattle.std.proofs.lemmas.List.{drop_all, drop_more}
 use Rattle.std.specs.List.Sorted.{IsStrictlySortedBy}
 use Rattle.std.specs.Option.{option_map}
-use Rattle.std.specs.Prelude.{IsTrue}
 use Rattle.law_effects.proofs.Identifiers.{left_by-up_to}
 use Rattle.law_effects.proofs.Valid.{left_by-valid}
 use Rattle.law_grammar.specs.VerdictOf.{verdict_of}
@@ -19,7 +18,7 @@ use Rattle.ras_setup.specs.Runs.{IsBase, IsChangedBy, IsRunTo, IsStatementOf, Is
 use Rattle.ras_setup.specs.declared.fault.Stop.{Stop}
 use Rattle.ras_setup.specs.declared.fault.Stop.TheVariants.{Fault, Memory}
 use Rattle.ras_setup.proofs.Texts.{goes-on, stops}
-use Rattle.ras_store.specs.Databases.{Keeps, holding_kept, holdings_of, rewrites_of}
+use Rattle.ras_store.specs.Databases.{Keeps, holding_kept}
 use Rattle.ras_store.specs.Kept.{Kept, changed_by_all}
 use Rattle.ras_store.specs.declared.change.Change.{Change}
 use Rattle.ras_store.proofs.KeptDatabases.{changes-rewrite}

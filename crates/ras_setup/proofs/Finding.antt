@@ -1,27 +1,23 @@
 -- From what was read and run to what is found of a text.
-use Rattle.std.proofs.Common.{◌≡◌, ◌≢◌, ℕ, ◌<◌, ◌≤◌, ◌^◌, List, [], length, drop, All, Option, Some, None, Result, Ok, Err, refl, sym, ap, subst, ◌∙◌, arith}
+use Rattle.std.proofs.Common.{◌≡◌, ℕ, ◌<◌, ◌≤◌, ◌^◌, [], length, drop, All, Option, Some, None, Result, Ok, Err, refl, sym, ap, ◌∙◌, arith}
 use Rattle.std.proofs.lemmas.List.Elements.{All-from_recursion}
 use Rattle.std.specs.Option.{option_map}
 use Rattle.law_lists.proofs.Each.{each_weaker}
 use Rattle.ras_setup.specs.Ends.{IsEndedAt}
-use Rattle.ras_setup.specs.Found.{IsFoundFor, IsPlacedFor, IsWantedFault, IsWorkload, refusal_seen}
+use Rattle.ras_setup.specs.Found.{IsFoundFor, IsPlacedFor, IsWantedFault}
 use Rattle.ras_setup.specs.Runs.{FindsBase, IsWantedFailure, SetsUp}
 use Rattle.ras_setup.specs.declared.fault.WorkloadRefusal.{WorkloadRefusal}
 use Rattle.ras_setup.specs.declared.fault.WorkloadRefusal.TheVariants as refusals
 use Rattle.ras_setup.proofs.Shorts.{outlines-within}
-use Rattle.ras_setup.proofs.Texts.{ended, followed, no-whole, no-workload, not-ended, over-base, over-fault, whole-of, workload-placed}
-use Rattle.ras_store.specs.Databases.{Keeps}
-use Rattle.ras_store.specs.Store.{store_kept}
+use Rattle.ras_setup.proofs.Texts.{followed, no-whole, no-workload, not-ended, over-base, over-fault, whole-of, workload-placed}
 use Rattle.ras_store.specs.declared.store.Store.{Store}
 use Rattle.ras_store.specs.declared.workload.Workload.{Workload}
 use Rattle.ras_workload.specs.Told.{ToldFault, fault_seen}
 use Rattle.ras_workload.specs.declared.fault.WorkloadFault.{WorkloadFault}
-use Rattle.ras_workload.specs.declared.fault.WorkloadFault.TheVariants.{BadHeading}
-use Rattle.spec_commands.specs.Commands.{after_blanks, ended_outline, line_behind, whole_workload_of}
-use Rattle.spec_expressions.specs.Database.{Database}
+use Rattle.spec_commands.specs.Commands.{after_blanks, line_behind, whole_workload_of}
 use Rattle.spec_grammar.specs.Tokens.{Text}
 use Rattle.spec_workloads.specs.Outline.{Outline, OutlineFault, bad_heading, outline_of}
-use Rattle.spec_workloads.specs.Setup.{SetupFault, WorkloadFaultValue, WorkloadValue, no_outline, set_up, setup_failed, workload_of, workload_of_outline, workload_over}
+use Rattle.spec_workloads.specs.Setup.{WorkloadFaultValue, WorkloadValue, no_outline, set_up, workload_of, workload_of_outline, workload_over}
 
 -- ---- what was read
 

@@ -1,17 +1,16 @@
 -- No statement of a text's outline is longer than the text, and its last heading ends in the text.
-use Rattle.std.proofs.Common.{◌≡◌, ℕ, suc, ◌+◌, ◌-◌, ◌≤◌, Bool, true, false, not, List, [], ◌∷◌, ◌++◌, length, length-append, length-drop, map, drop, Result, Ok, Err, refl, ap, ◌∙◌, subst, arith}
+use Rattle.std.proofs.Common.{◌≡◌, ℕ, suc, ◌+◌, ◌≤◌, Bool, true, false, not, List, [], ◌∷◌, ◌++◌, length, length-append, length-drop, map, drop, Result, Ok, refl, ap, ◌∙◌, subst, arith}
 use Rattle.std.specs.List.{AllByRecursion}
 use Rattle.ras_cells.specs.Outcomes.{◌>>=◌}
 use Rattle.ras_syntax.specs.declared.limits.TheConstants.{MAX_STATEMENTS}
-use Rattle.ras_syntax.specs.declared.types.Script.{Script}
 use Rattle.ras_syntax.specs.declared.types.SetType.{SetType}
 use Rattle.law_lists.proofs.Each.{each_map, each_weaker}
-use Rattle.spec_grammar.specs.Tokens.{Text, after_space, begins_with, is_line_feed, is_same, space_length}
+use Rattle.spec_grammar.specs.Tokens.{Text, begins_with, is_line_feed, is_same, space_length}
 use Rattle.std.specs.Prelude.{codes, ◌==◌}
 use Rattle.spec_workloads.specs.Outline.{Due, Heading, Outline, OutlineFault, all, bad_heading, begun_pieces, closed_before, end, heading_of, may_have_setup, may_have_types, no_outline, none_beyond}
 use Rattle.spec_workloads.specs.Outline.{nothing_behind, outline_after, outline_in, outline_of, provided, section_statements, session, session_due, sessions_on, setup, setup_on, title, titled, types}
 use Rattle.spec_workloads.specs.Outline.{types_of, unknown, with_section}
-use Rattle.spec_workloads.specs.Sections.{Headed, Piece, Pieces, Section, headed, headed_from, is_heading, lines_of, parted, parted_from, parts_of, piece_of, pieces_from, pieces_of, to_first, with_line, without_blank_end, line_feeds}
+use Rattle.spec_workloads.specs.Sections.{Headed, Piece, Pieces, Section, headed, headed_from, is_heading, lines_of, parted, parted_from, parts_of, pieces_from, pieces_of, to_first, with_line, without_blank_end, line_feeds}
 use Rattle.spec_workloads.proofs.Outlines.{bind_ok, ok_same}
 
 -- ---- lines

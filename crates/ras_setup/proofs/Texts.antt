@@ -1,12 +1,12 @@
 -- From the outline of a text and the outcome of its setup to the workload of the text.
-use Rattle.std.proofs.Common.{◌≡◌, ◌≢◌, ℕ, suc, ◌∷◌, List, [], drop, Result, Ok, Err, refl, ap, ◌∙◌, sym}
+use Rattle.std.proofs.Common.{◌≡◌, ◌≢◌, ℕ, suc, ◌∷◌, List, [], drop, Result, Ok, Err, refl, ap, ◌∙◌}
 use Rattle.ras_cells.specs.Outcomes.{◌>>=◌}
 use Rattle.ras_syntax.specs.declared.types.SetType.{SetType}
 use Rattle.spec_commands.specs.Commands.{after_blanks, after_setup, ended_outline, if_nothing, line_behind, whole_workload_of, with_outline}
 use Rattle.spec_expressions.specs.Database.{Database}
 use Rattle.spec_grammar.specs.Tokens.{Text}
 use Rattle.spec_workloads.specs.Outline.{Outline, OutlineFault, bad_heading, outline_of}
-use Rattle.spec_workloads.specs.Setup.{SetupFault, WorkloadFaultValue, WorkloadValue, after_verdict, no_outline, set_up, setup_failed, with_setup, workload_of, workload_of_outline, workload_over, workload_with_place}
+use Rattle.spec_workloads.specs.Setup.{SetupFault, WorkloadValue, after_verdict, no_outline, set_up, with_setup, workload_of, workload_of_outline, workload_over, workload_with_place}
 use Rattle.law_grammar.specs.VerdictOf.{verdict_of}
 use Rattle.spec_workloads.proofs.Outlines.{ok_same}
 

@@ -1,5 +1,5 @@
 -- Workloads in memory, as those of the definitions, and what is found of a text.
-use Rattle.std.specs.Prelude.{◌≡◌, ℕ, Option, Some, None, option_map, Result, Ok, Err}
+use Rattle.std.specs.Prelude.{◌≡◌, ℕ, Option, Some, option_map, Result, Ok, Err}
 use Rattle.ras_setup.specs.declared.fault.SetupFault.{SetupFault}
 use Rattle.ras_setup.specs.declared.fault.SetupFault.TheVariants.{Syntax, Answer, Word}
 use Rattle.ras_setup.specs.declared.fault.WorkloadRefusal.{WorkloadRefusal}

@@ -1,5 +1,5 @@
 -- How far a statement has come, over the database that a store keeps.
-use Rattle.std.specs.Prelude.{◌≡◌, ◌⊎◌, ℕ, suc, List, [], Option, None}
+use Rattle.std.specs.Prelude.{◌≡◌, ◌⊎◌, List, [], Option, None}
 use Rattle.ras_course.specs.Courses.{IsComeTo}
 use Rattle.ras_course.specs.declared.course.Course.{Course}
 use Rattle.ras_domain.specs.declared.lock.LockName.{LockName}

@@ -4,7 +4,6 @@ use Rattle.law_grammar.specs.VerdictOf.{verdict_of}
 use Rattle.ras_domain.specs.declared.lock.LockName.{LockName}
 use Rattle.ras_parse.specs.declared.fault.ParseFault.{ParseFault}
 use Rattle.ras_parse.specs.declared.fault.ParseFault.TheVariants as parse_faults
-use Rattle.ras_setup.specs.declared.fault.SetupFault.{SetupFault}
 use Rattle.ras_setup.specs.declared.fault.SetupFault.TheVariants.{Syntax}
 use Rattle.ras_setup.specs.declared.fault.Stop.{Stop}
 use Rattle.ras_setup.specs.declared.fault.Stop.TheVariants.{Fault, Memory}

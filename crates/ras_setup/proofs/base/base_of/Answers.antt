@@ -1,5 +1,4 @@
-use Rattle.std.proofs.Common.{◌≡◌, ◌+◌, ◌<◌, ◌≤◌, ◌∙◌, length, get_or, sym, arith}
-use Rattle.ras_syntax.specs.declared.limits.TheConstants.{MAX_IDENTIFIER, MAX_STATEMENTS}
+use Rattle.std.proofs.Common.{◌≡◌, ◌+◌, ◌<◌, ◌∙◌, length, get_or, sym, arith}
 use Rattle.ras_store.specs.Store.{store_kept}
 use Rattle.ras_setup.proofs.Bases.{so-far-begins, so-far-fails, so-far-on}
 use Rattle.ras_setup.proofs.base.base_of.Goals as goal

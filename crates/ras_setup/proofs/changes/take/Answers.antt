@@ -1,5 +1,5 @@
 use Rattle.ras_store.specs.Store.{store_kept}
-use Rattle.ras_work.specs.Works.{work_changes, work_kept}
+use Rattle.ras_work.specs.Works.{work_kept}
 use Rattle.law_work.specs.Written.{is_written}
 use Rattle.ras_store.specs.Piece.{piece_over}
 use Rattle.std.proofs.Common.{◌∙◌, ap, if◌then◌else◌}
