@@ -5,8 +5,6 @@
 #[cfg(test)]
 mod accepted;
 #[cfg(test)]
-mod faults;
-#[cfg(test)]
 mod told;
 #[cfg(test)]
 mod whole_way;
