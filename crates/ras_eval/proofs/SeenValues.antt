@@ -195,7 +195,8 @@ module _ (types : List SetType) (statement : Statement) (holdings : Holdings) (c
           → IsComputedAs types statement checked other result
       by shown here not_long replies writes (Ok (Rows rows)) gives = replies ∙ replied checked_tree shown (map row_reply_of rows) not_long (here ∙ gives)
       by shown here not_long replies writes (Ok (Writes some)) gives = writes ∙ wrote checked_tree shown _ not_long (here ∙ gives)
-      by shown here not_long replies writes (Err (Answer answer)) gives =
-          (replies ∙ stopped checked_tree shown (reply_of_answer answer) not_long (here ∙ gives),
-          writes ∙ stopped_writing checked_tree shown (reply_of_answer answer) not_long (here ∙ gives))
+      by shown here not_long replies writes (Err (Answer answer)) gives = (
+        replies ∙ stopped checked_tree shown (reply_of_answer answer) not_long (here ∙ gives),
+        writes ∙ stopped_writing checked_tree shown (reply_of_answer answer) not_long (here ∙ gives),
+      )
       by shown here not_long replies writes (Err Memory) gives = tt
