@@ -137,7 +137,7 @@ def beside_numpy(compute):
         rows = numpy.arange(side).reshape(side, 1)
         cells = ((7 * rows + numpy.arange(side)) % 100).astype(numpy.int64)
         seconds = best_of(lambda: compute(cells))
-        return f"numpy {seconds * 1000:.2f} ms"
+        return f"numpy {seconds * 1000:.2f} ms, x {first[0] / seconds:.0f}"
     return note
 
 
@@ -149,7 +149,8 @@ def beside_numpy_making(first, side):
         rows = numpy.arange(side).reshape(side, 1)
         return ((7 * rows + numpy.arange(side)) % 100).astype(numpy.uint8)
 
-    return f"numpy {best_of(make) * 1000:.2f} ms"
+    seconds = best_of(make)
+    return f"numpy {seconds * 1000:.2f} ms, x {first[0] / seconds:.0f}"
 
 
 def measure_check():
@@ -161,7 +162,7 @@ def measure_check():
     doubled("16 MiB of comments", ["check"], comments, 16 << 20)
 
 
-def beside_sqlite(count):
+def beside_sqlite(first, count):
     if sqlite3 is None:
         return ""
 
@@ -174,7 +175,8 @@ def beside_sqlite(count):
             base.execute("update g set v = ? where i = ?", (i % 200, i % 64))
             base.execute("commit")
 
-    return f"SQLite {best_of(work, 3):.3f} s"
+    seconds = best_of(work, 3)
+    return f"SQLite {seconds:.3f} s, x {first[0] / seconds:.1f}"
 
 
 def measure_run():
@@ -192,7 +194,7 @@ def measure_run():
         note = beside_numpy(compute) if compute else (lambda first, side: "")
         doubled(body[:40], words, lambda side, body=body: one_select(side, body), 512, note)
     doubled("10,000 updates apart, 64 sessions", words, lambda n: updates(64, n, True), 10000,
-            lambda first, n: beside_sqlite(n))
+            beside_sqlite)
     doubled("10,000 updates in one tile", words, lambda n: updates(64, n, False), 10000)
     doubled("one statement behind n updates", words, lambda n: updates(1, n, True), 5000)
 
